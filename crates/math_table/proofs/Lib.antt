@@ -1,0 +1,4 @@
+pub mod Agreeing
+pub mod Holding
+pub mod Inversion
+pub mod Tails

@@ -1,0 +1,9 @@
+pub mod Constructions
+pub mod Coverages
+pub mod Headers
+pub mod Limits
+pub mod MathVariants
+pub mod Meanings
+pub mod Outcomes
+pub mod Reading
+pub mod Shapes

@@ -1,0 +1,112 @@
+ghost use Prim.Native.Nat.{ℕ, _≤_};
+ghost use mathlib.Core.Bool.{true, false};
+ghost use mathlib.Core.Path.{_≡_};
+ghost use denote.Ref.{now};
+ghost use Rattle.std.specs.Results.{Cases};
+ghost use Rattle.std.specs.Slices.{found};
+ghost use Rattle.std.specs.Vec.{made};
+ghost use Rattle.face.specs.Meaning.{looked, variantAt, partAt};
+ghost use Rattle.math_table.specs.Headers.{wellFormed};
+ghost use Rattle.math_table.specs.Limits.{bounded-math};
+ghost use Rattle.math_table.specs.Meanings.{mathMeaning};
+ghost use Rattle.math_table.specs.Shapes.{shapeLook, shapeVariant, shapePart};
+use crate::entries::part_at;
+use crate::entries::variant_at;
+use crate::shapes::Shape;
+use crate::shapes::shape_of;
+use face::Face;
+use face::Fault;
+use face::Key;
+use face::Look;
+use face::Part;
+use face::Variant;
+
+// The largest size of a sign that a table offers.
+const LIMIT: u32 = 16_777_216;
+
+// A face over the bytes of a MATH table. Empty bytes know no key.
+#[derive(Clone, Copy)]
+pub struct MathTable<'a> {
+    table: &'a [u8],
+    // The number that its variants and parts carry.
+    face: u8,
+}
+
+// Why no face is made.
+#[derive(Clone, Copy, PartialEq, Eq, Debug)]
+pub enum Refusal {
+    // Has a table that is not empty ten bytes or more, and major version 1?
+    Header = 14,
+}
+
+// Is the table empty, or has it ten bytes or more and major version 1?
+fn well_formed(table: &[u8]) -> bool
+    ensures { λ r. ⌜ r ≡ wellFormed (now (table .entry)) ⌝ }
+{
+    match table {
+        [] => true,
+        [0, 1, ..] => table.len() >= 10,
+        _ => false,
+    }
+}
+
+impl<'a> MathTable<'a> {
+    pub fn new(table: &'a [u8], face: u8) -> Result<MathTable<'a>, Refusal>
+        ensures { λ r. ⌜ Cases r (λ m. (wellFormed (now (table .entry)) ≡ true) × (now (m .table) ≡ now (table .entry)) × (m .face ≡ face)) (λ e. (wellFormed (now (table .entry)) ≡ false) × (e ≡ Refusal.Header)) ⌝ }
+    {
+        if well_formed(table) {
+            Ok(MathTable { table, face })
+        } else {
+            Err(Refusal::Header)
+        }
+    }
+
+    // Where the key's construction stands, if it has one: enough to answer every question.
+    fn shape(&self, key: Key) -> Result<Option<Shape>, Fault>
+        ensures look { λ r. ⌜ looked (mathMeaning (now (now (self .entry) .table)) (now (self .entry) .face) key) ≡ shapeLook r ⌝ }
+        ensures variants { λ r. ⌜ ((i : ℕ) → variantAt (mathMeaning (now (now (self .entry) .table)) (now (self .entry) .face) key) i ≡ shapeVariant (now (now (self .entry) .table)) (now (self .entry) .face) key r i) ⌝ }
+        ensures parts { λ r. ⌜ ((i : ℕ) → partAt (mathMeaning (now (now (self .entry) .table)) (now (self .entry) .face) key) i ≡ shapePart (now (now (self .entry) .table)) (now (self .entry) .face) key r i) ⌝ }
+        ensures near { λ r. ⌜ made r (λ o. found o (λ s. (s .variants .first ≤ 262144) × (s .parts .first ≤ 262144))) ⌝ }
+    {
+        shape_of(self.table, key)
+    }
+}
+
+pub impl<'a> Face for MathTable<'a> as MathTableFace {
+    ghost meaning = { λ s key. mathMeaning (now (s .table)) (s .face) key };
+
+    ghost bounded = { λ s key. bounded-math (now (s .table)) (s .face) key };
+
+    fn look(&self, key: Key) -> Result<Option<Look>, Fault> {
+        let Some(shape) = self.shape(key)? else {
+            return Ok(None);
+        };
+        Ok(Some(Look {
+            limit: LIMIT,
+            least: u32::from(shape.least),
+            variants: shape.variants.count,
+            parts: shape.parts.count,
+        }))
+    }
+
+    fn variant(&self, key: Key, index: u16) -> Option<Variant> {
+        let run = self.shape(key).ok()??.variants;
+        if index >= run.count {
+            return None;
+        }
+        variant_at(self.table, self.face, key, run.first + 4 * u32::from(index)).ok()
+    }
+
+    fn part(&self, key: Key, index: u16) -> Option<Part> {
+        let run = self.shape(key).ok()??.parts;
+        if index >= run.count {
+            return None;
+        }
+        part_at(
+            self.table,
+            self.face,
+            key,
+            run.first + 10 * u32::from(index),
+        ).ok()
+    }
+}
