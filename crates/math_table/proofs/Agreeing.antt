@@ -5,6 +5,7 @@ use native.Mathlib.Omega.{arith}
 use mathlib.Core.Bool.{Bool, cond, true, false}
 use mathlib.Core.List.{List, [], _∷_}
 use mathlib.Core.Path.{_≡_, refl, sym, ap, _∙_}
+use denote.Ref.{now}
 use lib.Dec.{eqb, ltb}
 use lib.ListN.{length}
 use Rattle.std.proofs.shelf.Ways.{tells}
@@ -23,7 +24,9 @@ use Rattle.face.specs.Meaning.{Construction, looked, variantAt, partAt}
 use Rattle.math_table.specs.declared.locating.Located.{Located}
 use Rattle.math_table.specs.declared.shapes.Run.{Run}
 use Rattle.math_table.specs.declared.shapes.Shape.{Shape}
+use Rattle.math_table.specs.declared.tables.MathTable.{MathTable}
 use Rattle.math_table.specs.Constructions.{variantEntry, partEntry, variantList, partList, assemblyParts}
+use Rattle.math_table.specs.Making.{meant}
 use Rattle.math_table.specs.Meanings.{constructionAt, offered, meaningOf}
 use Rattle.math_table.specs.MathVariants.{located}
 use Rattle.math_table.specs.Reading.{word, bind, onFound, entries}
@@ -110,7 +113,7 @@ module _ (table : List ℕ) (face : ℕ) (key : Key) where
       [ true ↦ listed refl | false ↦ run-agrees table key part 5 part-inside (place + offset + 4) (place + offset + 6) ]
 
   -- a construction that is read where a shape stands, or the same answer without one
-  pub data Agrees : Result (Option Construction) Fault → Result (Option Shape) Fault → Type 0 where
+  data Agrees : Result (Option Construction) Fault → Result (Option Shape) Fault → Type 0 where
     fault : {f : Fault} → Agrees (Err f) (Err f)
     unknown : Agrees (Ok None) (Ok None)
     known : {s : Shape} {variants : List Variant} {parts : List Part}
@@ -138,7 +141,7 @@ module _ (table : List ℕ) (face : ℕ) (key : Key) where
     by (Ok assembly) = with-variants l assembly (run-agrees table key variant 2 variant-inside (l .place + 2) (l .place + 4))
     by (Err f) = fault
 
-  pub agrees : Agrees (offered table face key) (shaped table key)
+  agrees : Agrees (offered table face key) (shaped table key)
   agrees = by (located table key) where
     by : (l : Result (Option Located) Fault) → Agrees (bind l (λ o. onFound o (constructionAt table face key))) (bind l (λ o. onFound o (shapeAt table key)))
     by (Ok (Some l)) = shape-agrees l
@@ -166,21 +169,34 @@ entry-at read size (suc n) place xs e (suc i) =
     let at : place + size * suc i ≡ place + size + size * i = omega (arith, mul-suc size i) in
     rw (below, at) (ap (λ ys. nth ys (suc i)) (sym l) ∙ entry-at read size n (place + size) (b .0) (b .1) i)
 
-module _ {table : List ℕ} {face : ℕ} {key : Key} where
-  pub look-agrees : {r : Result (Option Construction) Fault} {s : Result (Option Shape) Fault} → Agrees table face key r s → looked (meaningOf r) ≡ shapeLook s
-  look-agrees fault = refl
-  look-agrees unknown = refl
-  look-agrees (known {s} v p) =
+-- so the shape answers every question
+module _ (m : MathTable) (key : Key) where
+  look-answered : {r : Result (Option Construction) Fault} {s : Result (Option Shape) Fault} → Agrees (now (m .table)) (m .face) key r s → looked (meaningOf r) ≡ shapeLook s
+  look-answered fault = refl
+  look-answered unknown = refl
+  look-answered (known {s} v p) =
       let variants = entries-length _ _ _ _ _ v in
       let parts = entries-length _ _ _ _ _ p in
       λ i. Ok (Some (record { limit = LARGEST; least = s .least; variants = variants i; parts = parts i }))
 
-  pub variant-agrees : {r : Result (Option Construction) Fault} {s : Result (Option Shape) Fault} → Agrees table face key r s → (i : ℕ) → variantAt (meaningOf r) i ≡ shapeVariant table face key s i
-  variant-agrees fault i = refl
-  variant-agrees unknown i = refl
-  variant-agrees (known v p) i = entry-at _ _ _ _ _ v i
+  variant-answered : {r : Result (Option Construction) Fault} {s : Result (Option Shape) Fault} → Agrees (now (m .table)) (m .face) key r s → (i : ℕ) → variantAt (meaningOf r) i ≡ shapeVariant m key s i
+  variant-answered fault i = refl
+  variant-answered unknown i = refl
+  variant-answered (known v p) i = entry-at _ _ _ _ _ v i
 
-  pub part-agrees : {r : Result (Option Construction) Fault} {s : Result (Option Shape) Fault} → Agrees table face key r s → (i : ℕ) → partAt (meaningOf r) i ≡ shapePart table face key s i
-  part-agrees fault i = refl
-  part-agrees unknown i = refl
-  part-agrees (known v p) i = entry-at _ _ _ _ _ p i
+  part-answered : {r : Result (Option Construction) Fault} {s : Result (Option Shape) Fault} → Agrees (now (m .table)) (m .face) key r s → (i : ℕ) → partAt (meaningOf r) i ≡ shapePart m key s i
+  part-answered fault i = refl
+  part-answered unknown i = refl
+  part-answered (known v p) i = entry-at _ _ _ _ _ p i
+
+  abbrev shape : Result (Option Shape) Fault
+  shape = shaped (now (m .table)) key
+
+  pub look-agrees : looked (meant m key) ≡ shapeLook shape
+  look-agrees = look-answered (agrees (now (m .table)) (m .face) key)
+
+  pub variant-agrees : (i : ℕ) → variantAt (meant m key) i ≡ shapeVariant m key shape i
+  variant-agrees = variant-answered (agrees (now (m .table)) (m .face) key)
+
+  pub part-agrees : (i : ℕ) → partAt (meant m key) i ≡ shapePart m key shape i
+  part-agrees = part-answered (agrees (now (m .table)) (m .face) key)

@@ -1,7 +1,7 @@
 pub mod Constructions
 pub mod Coverages
-pub mod Headers
 pub mod Limits
+pub mod Making
 pub mod MathVariants
 pub mod Meanings
 pub mod Outcomes

@@ -1,7 +1,9 @@
--- Where the entries of a construction stand. Words side by side are all inside the table if the last is.
+-- Where the entries of a construction stand: what the code works out before it answers.
+-- Nothing here has to be believed, since every answer is equated with Meanings.antt.
 use Prim.Native.Nat.{ℕ, zero, suc, _+_, _*_}
 use mathlib.Core.Bool.{cond}
 use mathlib.Core.List.{List}
+use denote.Ref.{now}
 use lib.Dec.{eqb, ltb}
 use Rattle.std.specs.Results.{okPart}
 use Rattle.std.specs.declared.option.Option.{Option}
@@ -17,6 +19,7 @@ use Rattle.face.specs.Bounds.{LARGEST}
 use Rattle.math_table.specs.declared.locating.Located.{Located}
 use Rattle.math_table.specs.declared.shapes.Run.{Run}
 use Rattle.math_table.specs.declared.shapes.Shape.{Shape}
+use Rattle.math_table.specs.declared.tables.MathTable.{MathTable}
 use Rattle.math_table.specs.Constructions.{variantEntry, partEntry}
 use Rattle.math_table.specs.MathVariants.{located}
 use Rattle.math_table.specs.Reading.{word, bind, onFound}
@@ -59,13 +62,15 @@ shapeLook (Ok (Some s)) =
 abbrev pub entryOf : {X : Type 0} → (ℕ → Result X Fault) → ℕ → Run → ℕ → Option X
 entryOf read size r i = cond (ltb i (r .count)) (okPart (read (r .first + size * i))) None
 
-module _ (table : List ℕ) (face : ℕ) (key : Key) where
+module _ (m : MathTable) (key : Key) where
+  -- what a shape answers to variant
   abbrev pub shapeVariant : Result (Option Shape) Fault → ℕ → Option Variant
   shapeVariant (Err f) i = None
   shapeVariant (Ok None) i = None
-  shapeVariant (Ok (Some s)) i = entryOf (variantEntry table face key) 4 (s .variants) i
+  shapeVariant (Ok (Some s)) i = entryOf (variantEntry (now (m .table)) (m .face) key) 4 (s .variants) i
 
+  -- .. and to part
   abbrev pub shapePart : Result (Option Shape) Fault → ℕ → Option Part
   shapePart (Err f) i = None
   shapePart (Ok None) i = None
-  shapePart (Ok (Some s)) i = entryOf (partEntry table face key) 10 (s .parts) i
+  shapePart (Ok (Some s)) i = entryOf (partEntry (now (m .table)) (m .face) key) 10 (s .parts) i

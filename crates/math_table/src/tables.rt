@@ -1,14 +1,11 @@
 ghost use Prim.Native.Nat.{ℕ, _≤_};
-ghost use mathlib.Core.Bool.{true, false};
 ghost use mathlib.Core.Path.{_≡_};
 ghost use denote.Ref.{now};
-ghost use Rattle.std.specs.Results.{Cases};
 ghost use Rattle.std.specs.Slices.{found};
 ghost use Rattle.std.specs.Vec.{made};
 ghost use Rattle.face.specs.Meaning.{looked, variantAt, partAt};
-ghost use Rattle.math_table.specs.Headers.{wellFormed};
 ghost use Rattle.math_table.specs.Limits.{bounded-math};
-ghost use Rattle.math_table.specs.Meanings.{mathMeaning};
+ghost use Rattle.math_table.specs.Making.{wellFormed, Making, meant};
 ghost use Rattle.math_table.specs.Shapes.{shapeLook, shapeVariant, shapePart};
 use crate::entries::part_at;
 use crate::entries::variant_at;
@@ -52,7 +49,7 @@ fn well_formed(table: &[u8]) -> bool
 
 impl<'a> MathTable<'a> {
     pub fn new(table: &'a [u8], face: u8) -> Result<MathTable<'a>, Refusal>
-        ensures { λ r. ⌜ Cases r (λ m. (wellFormed (now (table .entry)) ≡ true) × (now (m .table) ≡ now (table .entry)) × (m .face ≡ face)) (λ e. (wellFormed (now (table .entry)) ≡ false) × (e ≡ Refusal.Header)) ⌝ }
+        ensures { λ r. ⌜ Making (now (table .entry)) face r ⌝ }
     {
         if well_formed(table) {
             Ok(MathTable { table, face })
@@ -63,9 +60,9 @@ impl<'a> MathTable<'a> {
 
     // Where the key's construction stands, if it has one: enough to answer every question.
     fn shape(&self, key: Key) -> Result<Option<Shape>, Fault>
-        ensures look { λ r. ⌜ looked (mathMeaning (now (now (self .entry) .table)) (now (self .entry) .face) key) ≡ shapeLook r ⌝ }
-        ensures variants { λ r. ⌜ ((i : ℕ) → variantAt (mathMeaning (now (now (self .entry) .table)) (now (self .entry) .face) key) i ≡ shapeVariant (now (now (self .entry) .table)) (now (self .entry) .face) key r i) ⌝ }
-        ensures parts { λ r. ⌜ ((i : ℕ) → partAt (mathMeaning (now (now (self .entry) .table)) (now (self .entry) .face) key) i ≡ shapePart (now (now (self .entry) .table)) (now (self .entry) .face) key r i) ⌝ }
+        ensures look { λ r. ⌜ looked (meant (now (self .entry)) key) ≡ shapeLook r ⌝ }
+        ensures variants { λ r. ⌜ ((i : ℕ) → variantAt (meant (now (self .entry)) key) i ≡ shapeVariant (now (self .entry)) key r i) ⌝ }
+        ensures parts { λ r. ⌜ ((i : ℕ) → partAt (meant (now (self .entry)) key) i ≡ shapePart (now (self .entry)) key r i) ⌝ }
         ensures near { λ r. ⌜ made r (λ o. found o (λ s. (s .variants .first ≤ 262144) × (s .parts .first ≤ 262144))) ⌝ }
     {
         shape_of(self.table, key)
@@ -73,7 +70,7 @@ impl<'a> MathTable<'a> {
 }
 
 pub impl<'a> Face for MathTable<'a> as MathTableFace {
-    ghost meaning = { λ s key. mathMeaning (now (s .table)) (s .face) key };
+    ghost meaning = { meant };
 
     ghost bounded = { λ s key. bounded-math (now (s .table)) (s .face) key };
 

@@ -1,0 +1,4 @@
+mod changed;
+mod cut;
+mod described;
+mod level;
