@@ -1,4 +1,9 @@
 pub mod Agreeing
+pub mod GlyphIndexes
 pub mod Holding
 pub mod Inversion
+pub mod KnownSteps
+pub mod OfferedIsKnown
+pub mod ReadOffTheTable
+pub mod Standing
 pub mod Tails

@@ -1,9 +1,12 @@
 pub mod Constructions
 pub mod Coverages
+pub mod FaultPlaces
+pub mod Laws
 pub mod Limits
 pub mod Making
 pub mod MathVariants
 pub mod Meanings
+pub mod Offers
 pub mod Outcomes
 pub mod Reading
 pub mod Shapes

@@ -2,6 +2,7 @@
 // Tables are read as the OpenType specification lays them out; docs/math-table.md has our rules.
 mod coverages;
 mod entries;
+pub mod laws;
 mod locating;
 mod shapes;
 pub mod tables;
