@@ -6,88 +6,20 @@ ghost use Rattle.math_table.specs.Meanings.{mathMeaning};
 ghost use Rattle.math_table.specs.Reading.{faultAt};
 ghost use Rattle.settings.specs.Sample.{sample as sampleTable, withFormat, upright, offer};
 
-// The sample table: glyph 40 upright has two variants and three parts.
+// The sample table: header, MathVariants at 10, a coverage at 22, a construction at 28, its assembly at 40
+// with parts at 46, 56 and 66.
 pub fn sample() -> [u8; 76]
     ensures { λ r. ⌜ r ≡ sampleTable ⌝ }
 {
-    [
-        0x00,
-        0x01,
-        0x00,
-        0x00,
-        0x00,
-        0x00,
-        0x00,
-        0x00,
-        0x00,
-        0x0A, // header
-        0x00,
-        0x14,
-        0x00,
-        0x0C,
-        0x00,
-        0x00,
-        0x00,
-        0x01,
-        0x00,
-        0x00,
-        0x00,
-        0x12, // MathVariants
-        0x00,
-        0x01,
-        0x00,
-        0x01,
-        0x00,
-        0x28, // coverage
-        0x00,
-        0x0C,
-        0x00,
-        0x02,
-        0x00,
-        0x28,
-        0x00,
-        0x64,
-        0x00,
-        0x29,
-        0x00,
-        0xC8, // construction
-        0x00,
-        0x00,
-        0x00,
-        0x00,
-        0x00,
-        0x03, // assembly
-        0x00,
-        0x32,
-        0x00,
-        0x00,
-        0x00,
-        0x28,
-        0x00,
-        0x64,
-        0x00,
-        0x00, // its parts
-        0x00,
-        0x33,
-        0x00,
-        0x28,
-        0x00,
-        0x28,
-        0x00,
-        0x3C,
-        0x00,
-        0x01, //
-        0x00,
-        0x34,
-        0x00,
-        0x28,
-        0x00,
-        0x00,
-        0x00,
-        0x64,
-        0x00,
-        0x00, //
-    ]
+    *b"\
+        \x00\x01\x00\x00\x00\x00\x00\x00\x00\x0A\
+        \x00\x14\x00\x0C\x00\x00\x00\x01\x00\x00\x00\x12\
+        \x00\x01\x00\x01\x00\x28\
+        \x00\x0C\x00\x02\x00\x28\x00\x64\x00\x29\x00\xC8\
+        \x00\x00\x00\x00\x00\x03\
+        \x00\x32\x00\x00\x00\x28\x00\x64\x00\x00\
+        \x00\x33\x00\x28\x00\x28\x00\x3C\x00\x01\
+        \x00\x34\x00\x28\x00\x00\x00\x64\x00\x00"
 }
 
 pub fn glyph_40_upright_has_its_whole_construction()

@@ -2,72 +2,20 @@ use crate::tests::described::described;
 use face::Axis;
 use std::test::*;
 
-// A table of level constructions, whose coverage has ranges: one that begins above its end, 40 to 42 from
-// index 0 on, and 40 to 60 from index 1 on. Of its three offsets the second is 0.
-const TABLE: [u8; 62] = [
-    0x00,
-    0x01,
-    0x00,
-    0x00,
-    0x00,
-    0x00,
-    0x00,
-    0x00,
-    0x00,
-    0x0A, // at 0: header
-    0x00,
-    0x05,
-    0x00,
-    0x00,
-    0x00,
-    0x12,
-    0x00,
-    0x01,
-    0x00,
-    0x03, // at 10: MathVariants, 1 and 3 offsets
-    0x00,
-    0x00,
-    0x00,
-    0x28,
-    0x00,
-    0x00,
-    0x00,
-    0x2C, // at 20: the offsets
-    0x00,
-    0x02,
-    0x00,
-    0x03,
-    0x00,
-    0x32,
-    0x00,
-    0x28,
-    0x00,
-    0x07, // at 28: coverage, and its first range
-    0x00,
-    0x28,
-    0x00,
-    0x2A,
-    0x00,
-    0x00,
-    0x00,
-    0x28,
-    0x00,
-    0x3C,
-    0x00,
-    0x01, // at 38: two more ranges
-    0x00,
-    0x00,
-    0x00,
-    0x00, // at 50: a construction of nothing
-    0x00,
-    0x00,
-    0x00,
-    0x01,
-    0x00,
-    0x63,
-    0x00,
-    0x07, // at 54: one of glyph 99, advance 7
-];
+// A table of level constructions. At 0 the header; at 10 MathVariants, with least overlap 5, no upright coverage,
+// counts 1 and 3, and at 20 the offset of the upright construction (0) and of three level ones (to 50, 0, to 54);
+// at 28 a coverage of three ranges: one that begins above its end, 40 to 42 from index 0 on, 40 to 60 from index 1 on;
+// at 50 a construction of nothing; at 54 one of a variant, glyph 99 of advance 7.
+const TABLE: &[u8; 62] = b"\
+    \x00\x01\x00\x00\x00\x00\x00\x00\x00\x0A\
+    \x00\x05\x00\x00\x00\x12\x00\x01\x00\x03\
+    \x00\x00\x00\x28\x00\x00\x00\x2C\
+    \x00\x02\x00\x03\
+    \x00\x32\x00\x28\x00\x07\
+    \x00\x28\x00\x2A\x00\x00\
+    \x00\x28\x00\x3C\x00\x01\
+    \x00\x00\x00\x00\
+    \x00\x00\x00\x01\x00\x63\x00\x07";
 
 #[test]
 fn ranges_and_level_offsets(rt: LibcRuntime) -> Result<(), Fail> {
@@ -87,6 +35,6 @@ fn ranges_and_level_offsets(rt: LibcRuntime) -> Result<(), Fail> {
         let found = described(rt.alloc(), table, glyph, Axis::Level)?;
         check_eq(found.as_str(), text)?;
     }
-    let upright = described(rt.alloc(), &TABLE, 40, Axis::Upright)?;
+    let upright = described(rt.alloc(), TABLE, 40, Axis::Upright)?;
     check_eq(upright.as_str(), "unknown")
 }
