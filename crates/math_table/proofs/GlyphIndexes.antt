@@ -1,4 +1,4 @@
--- The index that a coverage table gives a glyph is the one that is read, and the other way round.
+-- The index that a coverage table gives a glyph, if it gives one, is what is read, and the other way round.
 use Prim.Native.Nat.{ℕ, zero, suc, _+_, _-_, _*_, _≤_, _<_}
 use native.Mathlib.Nat.{mul-le-mul-left, eq-or-lt-of-le}
 use native.Mathlib.Omega.{arith}
@@ -23,6 +23,7 @@ use Rattle.math_table.specs.declared.coverages.Format.{Format}
 use Rattle.math_table.specs.declared.coverages.Format.the-variants.{Glyphs, Ranges}
 use Rattle.math_table.specs.Coverages.{formatOf, entrySize, entryIndex, firstHolding, indexBy, coverageIndex}
 use Rattle.math_table.specs.FaultPlaces.{no-format}
+use Rattle.math_table.specs.HasNothing.{LeavesOut}
 use Rattle.math_table.specs.MathVariants.{coverageOffset}
 use Rattle.math_table.specs.Offers.{WordIs, Leads, Gives, alone, ranged, formatWord, Covers}
 use Rattle.math_table.specs.Outcomes.{answer, IfFound, nothing, comes-bind}
@@ -39,16 +40,17 @@ module _ (table : List ℕ) (key : Key) where
   Holds format place position index = Gives table (key .glyph) place position format index
 
   module _ (place position : ℕ) where
-    entry-comes : (format : Format) → Reads table key (IfFound (Holds format place position)) (entryIndex table key format place position)
+    entry-comes : (format : Format) → Reads table key (IfFound (place + entrySize format ≤ length table) (Holds format place position)) (entryIndex table key format place position)
     entry-comes Glyphs =
         comes-bind (word-comes table key place) (λ glyph is.
-        answer (found-if position (eqb glyph (key .glyph)) (λ same.
+        answer (found-if position (eqb glyph (key .glyph)) (word-ends-inside table place glyph is) (λ same.
         alone (subst (WordIs table place) (eqb-true glyph (key .glyph) same) is))))
     entry-comes Ranges =
         comes-bind (word-comes table key place) (λ start start-is.
         comes-bind (word-comes table key (place + 2)) (λ last last-is.
         comes-bind (word-comes table key (place + 4)) (λ first first-is.
-        answer (found-if (first + (key .glyph - start)) (leb start (key .glyph) && leb (key .glyph) last) (λ both.
+        let ends = word-ends-inside table (place + 4) first first-is in
+        answer (found-if (first + (key .glyph - start)) (leb start (key .glyph) && leb (key .glyph) last) (omega arith) (λ both.
         let holds = and-parts (leb start (key .glyph)) (leb (key .glyph) last) both in
         ranged start last first start-is last-is first-is (leb-true _ _ (holds .0)) (leb-true _ _ (holds .1)))))))
 
@@ -86,6 +88,10 @@ module _ (table : List ℕ) (key : Key) where
           by (None, e) = e
           by (Some index, e) = absurd (not-here index (known-holds (entry-comes format) e))
 
+  -- what the coverage table at `place` has for the key's glyph is what is read
+  abbrev pub Finds : ℕ → Result (Option ℕ) Fault → Type 0
+  Finds place r = Reads table key (IfFound (LeavesOut table (key .glyph) place) (Covers table (key .glyph) place)) r
+
   -- the entries of the coverage table at `place`, by their positions
   module _ (place : ℕ) (format : Format) where
     abbrev entryAt : ℕ → ℕ
@@ -107,9 +113,18 @@ module _ (table : List ℕ) (key : Key) where
         ap (λ k. firstHolding table key format n k (position + 1)) step
 
     holding-comes : (count : ℕ) → WordIs table place (formatWord format) → WordIs table (place + 2) count
-        → (n position : ℕ) → position + n ≤ count → NoneBefore position → Reads table key (IfFound (Covers table (key .glyph) place)) (holding n position)
-    holding-comes count format-is count-is zero position within none-before = answer nothing
-    holding-comes count format-is count-is (suc n) position within none-before =
+        → (n position : ℕ) → position + n ≡ count → entryAt position ≤ length table → NoneBefore position → Finds place (holding n position)
+    holding-comes count format-is count-is zero position within ends none-before =
+        let all : count ≡ position = omega arith in
+        answer (nothing (record {
+          format = format;
+          format-is = format-is;
+          count = position;
+          count-is = subst (WordIs table (place + 2)) all count-is;
+          inside = ends;
+          none = none-before;
+        }))
+    holding-comes count format-is count-is (suc n) position within ends none-before =
         comes-bind (comes-with (entry-comes (entryAt position) position format)) (λ o at.
         comes-orElse (at .0)
         (λ index gives. record {
@@ -122,11 +137,15 @@ module _ (table : List ℕ) (key : Key) where
           gives = gives;
           first = none-before;
         })
-        (λ none.
+        (λ ends none.
         let not-here = none-holds (entryAt position) position format (at .1 ∙ ap Ok none) in
-        subst (Reads table key (IfFound (Covers table (key .glyph) place))) (holding-more n position)
-        (holding-comes count format-is count-is n (position + 1) (omega arith)
+        subst (Finds place) (holding-more n position)
+        (holding-comes count format-is count-is n (position + 1) (omega arith) (omega arith)
         (below-more (λ i. (index : ℕ) → Holds format (entryAt i) i index → ⊥) position none-before not-here))))
+
+    holding-past : (n position : ℕ) → entryAt position + entrySize format ≤ length table → ((index : ℕ) → Holds format (entryAt position) position index → ⊥)
+        → holding (suc n) position ≡ holding n (position + 1)
+    holding-past n position inside not-here = bind-to _ (none-read (entryAt position) position format inside not-here) (sym (holding-more n position))
 
     -- the words of the entries before one that is inside the table are inside it too
     holding-to : (index i n position : ℕ) → position ≤ i → i < position + n → Holds format (entryAt i) i index → NoneBefore i
@@ -139,30 +158,49 @@ module _ (table : List ℕ) (key : Key) where
         (λ (later : position < i).
         let ends = holds-inside (entryAt i) i format index holds in
         let rises = mul-le-mul-left (entrySize format) later in
-        bind-to _ (none-read (entryAt position) position format (omega arith) (none-before position later))
-        (sym (holding-more n position) ∙ holding-to index i n (position + 1) (omega arith) (omega arith) holds none-before))
+        holding-past n position (omega arith) (none-before position later)
+        ∙ holding-to index i n (position + 1) (omega arith) (omega arith) holds none-before)
         (eq-or-lt-of-le from)
 
-  pub coverage-to : (place index : ℕ) → Covers table (key .glyph) place index → coverageIndex table key place ≡ Ok (Some index)
-  coverage-to place index c =
-      bind-to _ (word-to table key place (c .format-is)) (
-      ap (indexBy table key place) (format-back (c .format)) ∙
-      bind-to _ (word-to table key (place + 2) (c .count-is)) (
-      sym (holding-none place (c .format) (c .count)) ∙
-      holding-to place (c .format) index (c .position) (c .count) 0 (omega arith) (omega arith) (c .gives) (c .first)))
+    holding-nothing : (count n position : ℕ) → position + n ≡ count → entryAt count ≤ length table → NoneBefore count → holding n position ≡ Ok None
+    holding-nothing count zero position within inside none = refl
+    holding-nothing count (suc n) position within inside none =
+        let below : position < count = omega arith in
+        let rises = mul-le-mul-left (entrySize format) below in
+        holding-past n position (omega arith) (none position below) ∙ holding-nothing count n (position + 1) (omega arith) inside none
+
+    indexed-to : {count : ℕ} {r : Result (Option ℕ) Fault} → WordIs table place (formatWord format) → WordIs table (place + 2) count
+        → holding count 0 ≡ r → coverageIndex table key place ≡ r
+    indexed-to {count} format-is count-is to =
+        bind-to _ (word-to table key place format-is) (
+        ap (indexBy table key place) (format-back format) ∙
+        bind-to _ (word-to table key (place + 2) count-is)
+        (sym (holding-none count) ∙ to))
+
+  module _ (place : ℕ) where
+    pub coverage-to : (index : ℕ) → Covers table (key .glyph) place index → coverageIndex table key place ≡ Ok (Some index)
+    coverage-to index c =
+        indexed-to place (c .format) (c .format-is) (c .count-is)
+        (holding-to place (c .format) index (c .position) (c .count) 0 (omega arith) (omega arith) (c .gives) (c .first))
+
+    pub coverage-nothing : LeavesOut table (key .glyph) place → coverageIndex table key place ≡ Ok None
+    coverage-nothing out =
+        indexed-to place (out .format) (out .format-is) (out .count-is)
+        (holding-nothing place (out .format) (out .count) (out .count) 0 (omega arith) (out .inside) (out .none))
 
   module _ (base place : ℕ) (header : Leads table 0 8 base) (leads : Leads table base (base + coverageOffset (key .axis)) place) where
-    entries-come : (format : Format) → WordIs table place (formatWord format) → Reads table key (IfFound (Covers table (key .glyph) place)) (indexBy table key place (Some format))
+    entries-come : (format : Format) → WordIs table place (formatWord format) → Finds place (indexBy table key place (Some format))
     entries-come format format-is =
         comes-bind (word-comes table key (place + 2)) (λ n count-is.
-        subst (Reads table key (IfFound (Covers table (key .glyph) place))) (holding-none place format n)
-        (holding-comes place format n format-is count-is n 0 (omega arith) (λ i below. absurd (omega arith))))
+        let ends = word-ends-inside table (place + 2) n count-is in
+        subst (Finds place) (holding-none place format n)
+        (holding-comes place format n format-is count-is n 0 (omega arith) (omega arith) (λ i below. absurd (omega arith))))
 
-    pub coverage-comes : Reads table key (IfFound (Covers table (key .glyph) place)) (coverageIndex table key place)
+    pub coverage-comes : Finds place (coverageIndex table key place)
     coverage-comes = comes-bind (word-comes table key place) (λ w is. by w is (eqb w 1) (eqb w 2) refl refl)
       where
         by : (w : ℕ) → WordIs table place w → (b c : Bool) → eqb w 1 ≡ b → eqb w 2 ≡ c
-            → Reads table key (IfFound (Covers table (key .glyph) place)) (indexBy table key place (cond b (Some Glyphs) (cond c (Some Ranges) None)))
+            → Finds place (indexBy table key place (cond b (Some Glyphs) (cond c (Some Ranges) None)))
         by w is true c one two = entries-come Glyphs (subst (WordIs table place) (eqb-true w 1 one) is)
         by w is false true one two = entries-come Ranges (subst (WordIs table place) (eqb-true w 2 two) is)
         by w is false false one two = fault-comes table key place CoverageFormat (no-format w header leads is (eqb-false w 1 one) (eqb-false w 2 two))

@@ -3,6 +3,7 @@ pub mod GlyphIndexes
 pub mod Holding
 pub mod Inversion
 pub mod KnownSteps
+pub mod LocatedIsKnown
 pub mod OfferedIsKnown
 pub mod ReadOffTheTable
 pub mod Standing

@@ -21,33 +21,39 @@ use Rattle.math_table.specs.Offers.{WordIs, Listed}
 use Rattle.math_table.specs.Outcomes.{Comes, answer, fault, IfFound, nothing, found, comes-bind, comes-so, comes-entries}
 use Rattle.math_table.specs.Reading.{wordAt, faultAt, word, bind, entries}
 
-module _ {X : Type 0} {P : X → Type 0} where
-  pub found-so : {R : X → Type 0} {o : Option X} → ((x : X) → P x → R x) → IfFound P o → IfFound R o
-  found-so so nothing = nothing
-  found-so so (found p) = found (so _ p)
+module _ {X N : Type 0} {P : X → Type 0} where
+  pub found-so : {M : Type 0} {R : X → Type 0} {o : Option X} → (N → M) → ((x : X) → P x → R x) → IfFound N P o → IfFound M R o
+  found-so else so (nothing n) = nothing (else n)
+  found-so else so (found p) = found (so _ p)
 
-  pub found-if : (x : X) (b : Bool) → (b ≡ true → P x) → IfFound P (cond b (Some x) None)
-  found-if x true p = found (p refl)
-  found-if x false p = nothing
+  pub found-if : (x : X) (b : Bool) → N → (b ≡ true → P x) → IfFound N P (cond b (Some x) None)
+  found-if x true n p = found (p refl)
+  found-if x false n p = nothing n
 
   module _ {Q : Fault → Type 0} where
-    pub comes-with : {r : Result X Fault} → Comes Q P r → Comes Q (λ x. P x × (r ≡ Ok x)) r
-    comes-with (answer p) = answer (p, refl)
-    comes-with (fault q) = fault q
-
-    pub comes-orElse : {R : X → Type 0} {later : Result (Option X) Fault} {o : Option X}
-        → IfFound P o → ((x : X) → P x → R x) → (o ≡ None → Comes Q (IfFound R) later) → Comes Q (IfFound R) (orElse later o)
-    comes-orElse nothing so else = else refl
+    pub comes-orElse : {M : Type 0} {R : X → Type 0} {later : Result (Option X) Fault} {o : Option X}
+        → IfFound N P o → ((x : X) → P x → R x) → (N → o ≡ None → Comes Q (IfFound M R) later) → Comes Q (IfFound M R) (orElse later o)
+    comes-orElse (nothing n) so else = else n refl
     comes-orElse (found p) so else = answer (found (so _ p))
 
-    pub known-holds : {r : Result (Option X) Fault} {x : X} → Comes Q (IfFound P) r → r ≡ Ok (Some x) → P x
-    known-holds (answer nothing) e = absurd (grind arith)
+    pub known-holds : {r : Result (Option X) Fault} {x : X} → Comes Q (IfFound N P) r → r ≡ Ok (Some x) → P x
+    known-holds (answer (nothing n)) e = absurd (grind arith)
     known-holds {x} (answer (found {x = y} p)) e = let same : y ≡ x = cc in subst P same p
     known-holds (fault q) e = absurd (grind arith)
 
-    pub fault-holds : {r : Result X Fault} {f : Fault} → Comes Q P r → r ≡ Err f → Q f
-    fault-holds (answer p) e = absurd (grind arith)
-    fault-holds {f} (fault {f = g} q) e = let same : g ≡ f = cc in subst Q same q
+    pub unknown-holds : {r : Result (Option X) Fault} → Comes Q (IfFound N P) r → r ≡ Ok None → N
+    unknown-holds (answer (nothing n)) e = n
+    unknown-holds (answer (found p)) e = absurd (grind arith)
+    unknown-holds (fault q) e = absurd (grind arith)
+
+module _ {X : Type 0} {P : X → Type 0} {Q : Fault → Type 0} where
+  pub comes-with : {r : Result X Fault} → Comes Q P r → Comes Q (λ x. P x × (r ≡ Ok x)) r
+  comes-with (answer p) = answer (p, refl)
+  comes-with (fault q) = fault q
+
+  pub fault-holds : {r : Result X Fault} {f : Fault} → Comes Q P r → r ≡ Err f → Q f
+  fault-holds (answer p) e = absurd (grind arith)
+  fault-holds {f} (fault {f = g} q) e = let same : g ≡ f = cc in subst Q same q
 
 -- P of the answer; a fault is where it says
 abbrev pub Reads : List ℕ → Key → {X : Type 0} → (X → Type 0) → Result X Fault → Type 0

@@ -5,7 +5,7 @@ use mathlib.Core.List.{List, []}
 use lib.Bits.{bitAnd}
 use lib.Dec.{eqb}
 use Rattle.std.specs.declared.result.Result.{Result}
-use Rattle.std.specs.declared.result.Result.the-variants.{Ok, Err}
+use Rattle.std.specs.declared.result.Result.the-variants.{Ok}
 use Rattle.face.specs.declared.faults.Fault.{Fault}
 use Rattle.face.specs.declared.keys.Key.{Key}
 use Rattle.face.specs.declared.parts.Part.{Part}

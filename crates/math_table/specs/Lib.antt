@@ -1,6 +1,7 @@
 pub mod Constructions
 pub mod Coverages
 pub mod FaultPlaces
+pub mod HasNothing
 pub mod Laws
 pub mod Limits
 pub mod Making

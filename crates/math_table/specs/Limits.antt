@@ -30,8 +30,8 @@ any-result : {X : Type 0} (r : Result X Fault) → Comes Any Any r
 any-result (Ok x) = answer tt
 any-result (Err f) = fault tt
 
-any-option : {X : Type 0} (o : Option X) → IfFound Any o
-any-option None = nothing
+any-option : {X : Type 0} (o : Option X) → IfFound (Unit {0}) Any o
+any-option None = nothing tt
 any-option (Some x) = found tt
 
 -- as many entries as a word tells, and P of each
@@ -75,27 +75,27 @@ module _ (table : List ℕ) (face : ℕ) (key : Key) where
       (λ _. answer (tt, omega arith))
       (λ _. comes-bind (word-small (place + offset + 4)) (λ n small. entries-short 10 part-small n (place + offset + 6) small))
 
-  located-small : Comes Any (IfFound (λ l. l .least ≤ LARGEST)) (located table key)
+  located-small : Comes Any (IfFound (Unit {0}) (λ l. l .least ≤ LARGEST)) (located table key)
   located-small =
-      comes-via (length table) (λ _.
+      comes-via (length table) (λ _. tt) (λ _.
       comes-bind (word-small 8) (λ base _.
-      comes-via base (λ _.
+      comes-via base (λ _. tt) (λ _.
       comes-bind (word-small base) (λ least small.
-      comes-bind (any-result (covered table key base)) (λ o _. comes-onFound (any-option o) (λ index _.
+      comes-bind (any-result (covered table key base)) (λ o _. comes-onFound (any-option o) (λ _. tt) (λ index _.
       comes-bind (any-result (constructionOffset table key base index)) (λ offset _.
-      comes-via offset (λ _.
+      comes-via offset (λ _. tt) (λ _.
       answer (found (omega arith))))))))))
 
-  offered-within : Comes Any (IfFound Within) (offered table face key)
+  offered-within : Comes Any (IfFound (Unit {0}) Within) (offered table face key)
   offered-within =
-      comes-bind located-small (λ o small. comes-onFound small (λ l small.
+      comes-bind located-small (λ o small. comes-onFound small (λ _. tt) (λ l small.
       comes-bind (word-small (l .place)) (λ assembly _.
       comes-bind (variants-short (l .place)) (λ variants short.
       comes-bind (parts-short (l .place) assembly) (λ parts few.
       answer (found (record { limit = omega arith; least = small; advances = short .0; fulls = few .0; variants = short .1; parts = few .1 })))))))
 
-bounded : {r : Result (Option Construction) Fault} → Comes Any (IfFound Within) r → Bounded (meaningOf r)
-bounded (answer nothing) = tt
+bounded : {r : Result (Option Construction) Fault} → Comes Any (IfFound (Unit {0}) Within) r → Bounded (meaningOf r)
+bounded (answer (nothing _)) = tt
 bounded (answer (found within)) = within
 bounded (fault q) = tt
 

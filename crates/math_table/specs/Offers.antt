@@ -67,14 +67,21 @@ abbrev pub Before : List ℕ → (base : ℕ) → Axis → ℕ → Type 0
 Before table base Upright before = before ≡ 0
 Before table base Level before = WordIs table (base + 6) before
 
--- the construction of an index begins at `place`: the index is below the count of its axis
-pub record Constructs (table : List ℕ) (key : Key) (base index place : ℕ) : Type 0 where
+-- the construction offset of an index, which may be null: the index is below the count of its axis
+pub record OffsetIs (table : List ℕ) (key : Key) (base index offset : ℕ) : Type 0 where
   pub count : ℕ
   pub count-is : WordIs table (base + countOffset (key .axis)) count
   pub inside : index < count
   pub before : ℕ
   pub before-is : Before table base (key .axis) before
-  pub leads : Leads table base (base + 10 + 2 * (before + index)) place
+  pub word-is : WordIs table (base + 10 + 2 * (before + index)) offset
+
+-- the construction of an index begins at `place`
+pub record Constructs (table : List ℕ) (key : Key) (base index place : ℕ) : Type 0 where
+  pub offset : ℕ
+  pub offset-is : OffsetIs table key base index offset
+  pub not-null : offset ≡ 0 → ⊥
+  pub place-is : place ≡ base + offset
 
 -- as many entries as the word at `count` says, and the one at i stands i sizes after the first
 pub record Listed {X : Type 0} (table : List ℕ) (Is : ℕ → X → Type 0) (size count first : ℕ) (xs : List X) : Type 0 where

@@ -17,10 +17,10 @@ pub data Comes {X : Type 0} (Q : Fault → Type 0) (P : X → Type 0) : Result X
   answer : {x : X} → P x → Comes Q P (Ok x)
   fault : {f : Fault} → Q f → Comes Q P (Err f)
 
--- P of what was found, if anything was
-pub data IfFound {X : Type 0} (P : X → Type 0) : Option X → Type 0 where
-  nothing : IfFound P None
-  found : {x : X} → P x → IfFound P (Some x)
+-- P of what was found, or N where nothing was
+pub data IfFound {X : Type 0} (N : Type 0) (P : X → Type 0) : Option X → Type 0 where
+  nothing : N → IfFound N P None
+  found : {x : X} → P x → IfFound N P (Some x)
 
 module _ {Q : Fault → Type 0} where
   pub comes-bind : {X Y : Type 0} {P : X → Type 0} {R : Y → Type 0} {r : Result X Fault} {next : X → Result Y Fault}
@@ -32,10 +32,10 @@ module _ {Q : Fault → Type 0} where
   comes-so (answer p) then = answer (then _ p)
   comes-so (fault q) then = fault q
 
-  pub comes-onFound : {X Y : Type 0} {P : X → Type 0} {R : Y → Type 0} {o : Option X} {next : X → Result (Option Y) Fault}
-      → IfFound P o → ((x : X) → P x → Comes Q (IfFound R) (next x)) → Comes Q (IfFound R) (onFound o next)
-  comes-onFound nothing then = answer nothing
-  comes-onFound (found p) then = then _ p
+  pub comes-onFound : {X Y M N : Type 0} {P : X → Type 0} {R : Y → Type 0} {o : Option X} {next : X → Result (Option Y) Fault}
+      → IfFound M P o → (M → N) → ((x : X) → P x → Comes Q (IfFound N R) (next x)) → Comes Q (IfFound N R) (onFound o next)
+  comes-onFound (nothing m) else then = answer (nothing (else m))
+  comes-onFound (found p) else then = then _ p
 
   pub comes-if : {X : Type 0} {P : X → Type 0} {r s : Result X Fault} (b : Bool)
       → (b ≡ true → Comes Q P r) → (b ≡ false → Comes Q P s) → Comes Q P (cond b r s)
@@ -46,9 +46,9 @@ module _ {Q : Fault → Type 0} where
       → (n ≡ 0 → Comes Q P r) → ((n ≡ 0 → ⊥) → Comes Q P s) → Comes Q P (cond (eqb n 0) r s)
   comes-if-zero n if-so if-not = comes-if (eqb n 0) (λ t. if-so (eqb-true n 0 t)) (λ t. if-not (eqb-false n 0 t))
 
-  pub comes-via : {X : Type 0} {P : X → Type 0} {r : Result (Option X) Fault} (n : ℕ)
-      → ((n ≡ 0 → ⊥) → Comes Q (IfFound P) r) → Comes Q (IfFound P) (via n r)
-  comes-via n then = comes-if-zero n (λ _. answer nothing) then
+  pub comes-via : {X N : Type 0} {P : X → Type 0} {r : Result (Option X) Fault} (n : ℕ)
+      → (n ≡ 0 → N) → ((n ≡ 0 → ⊥) → Comes Q (IfFound N P) r) → Comes Q (IfFound N P) (via n r)
+  comes-via n else then = comes-if-zero n (λ null. answer (nothing (else null))) then
 
   -- R n place xs, by how it begins and goes on: n entries from a place on
   pub comes-entries : {X : Type 0} {Is : ℕ → X → Type 0} {read : ℕ → Result X Fault} (size : ℕ) (R : ℕ → ℕ → List X → Type 0)
