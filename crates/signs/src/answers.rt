@@ -1,0 +1,119 @@
+ghost use mathlib.Core.Path.{_≡_};
+ghost use lib.Chars.{codes};
+ghost use Rattle.face.specs.declared.keys.Axis.the-variants.{Upright, Level};
+use crate::questions::BadLineDisplay;
+use crate::questions::question;
+use face::Axis;
+use face::Face;
+use face::Fault;
+use face::Key;
+use face::Look;
+use std::io;
+use std::io::Write;
+use text::next_line;
+
+fn axis_word(axis: Axis) -> &'static str
+    ensures { λ r. ⌜ now r ≡ elim axis [ Upright ↦ codes "upright" | Level ↦ codes "level" ] ⌝ }
+{
+    match axis {
+        Axis::Upright => "upright",
+        Axis::Level => "level",
+    }
+}
+
+fn print_variants<W: Write, F: Face>(
+    out: &mut W,
+    face: &F,
+    key: Key,
+    count: u16,
+) -> io::Result<()> {
+    for index in 0..count {
+        if let Some(variant) = face.variant(key, index) {
+            writeln!(
+                out,
+                "  variant {index}: face {} glyph {} advance {}",
+                variant.face, variant.glyph, variant.advance
+            )?;
+        }
+    }
+    Ok(())
+}
+
+fn print_parts<W: Write, F: Face>(out: &mut W, face: &F, key: Key, count: u16) -> io::Result<()> {
+    for index in 0..count {
+        if let Some(part) = face.part(key, index) {
+            let extender = if part.extender { " extender" } else { "" };
+            writeln!(
+                out,
+                "  part {index}: face {} glyph {} start {} end {} full {}{extender}",
+                part.face, part.glyph, part.start, part.end, part.full
+            )?;
+        }
+    }
+    Ok(())
+}
+
+fn print_fault<W: Write>(out: &mut W, fault: Fault) -> io::Result<()> {
+    writeln!(
+        out,
+        "fault cause {} layer {} place {} glyph {} passed {}",
+        fault.cause as u8, fault.layer as u8, fault.place, fault.glyph, fault.passed
+    )
+}
+
+fn print_construction<W: Write, F: Face>(
+    out: &mut W,
+    face: &F,
+    key: Key,
+    look: Look,
+) -> io::Result<()> {
+    writeln!(out, "construction")?;
+    writeln!(out, "  limit {}", look.limit)?;
+    writeln!(out, "  least overlap {}", look.least)?;
+    print_variants(out, face, key, look.variants)?;
+    print_parts(out, face, key, look.parts)
+}
+
+// What a face says of a key.
+fn print_answer<W: Write, F: Face>(out: &mut W, face: &F, key: Key) -> io::Result<()> {
+    match face.look(key) {
+        Ok(None) => writeln!(out, "unknown"),
+        Ok(Some(look)) => print_construction(out, face, key, look),
+        Err(fault) => print_fault(out, fault),
+    }
+}
+
+// The first face answers; where it does not know the key, the second.
+fn print_key<W: Write, A: Face, B: Face>(
+    out: &mut W,
+    first: &A,
+    second: &B,
+    key: Key,
+) -> io::Result<()> {
+    write!(out, "glyph {} {}: ", key.glyph, axis_word(key.axis))?;
+    match first.look(key) {
+        Ok(None) => print_answer(out, second, key),
+        _ => print_answer(out, first, key),
+    }
+}
+
+// The answers to the questions in a text, one for each line. A bad line is told, and the rest goes on.
+pub(crate) fn answer_lines<W: Write, A: Face, B: Face>(
+    out: &mut W,
+    text: &[u8],
+    first: &A,
+    second: &B,
+) -> io::Result<()> {
+    let mut rest = text;
+    let mut count: usize = 0;
+    while let Some((line, after)) = next_line(rest) {
+        count += 1;
+        write!(out, "line {count}: ")?;
+        match question(line) {
+            Ok(key) => print_key(out, first, second, key)?,
+            Err(bad) => writeln!(out, "{bad}")?,
+        }
+        rest = after;
+    }
+    Ok(())
+}

@@ -1,0 +1,5 @@
+mod Cutting
+pub mod Joining
+mod Parting
+mod Reading
+pub mod Written
