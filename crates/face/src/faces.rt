@@ -2,7 +2,7 @@ ghost use mathlib.Core.Path.{_≡_};
 ghost use denote.Ref.{now};
 ghost use Rattle.face.specs.Bounds.{Bounded};
 ghost use Rattle.face.specs.Meaning.{Meaning, looked, variantAt, partAt};
-ghost use Rattle.face.specs.declared.keys.Key.{Key as Asked};
+ghost use Rattle.face.specs.declared.keys.Key.{Key as TheKey};
 use crate::faults::Fault;
 use crate::keys::Key;
 use crate::looks::Look;
@@ -12,10 +12,10 @@ use crate::variants::Variant;
 // What a font offers for stretching signs. Questions change nothing, and repeated they answer alike.
 pub trait Face {
     // Each key is unknown, has a fault, or has a construction.
-    ghost meaning: { Self → Asked → Meaning };
+    ghost meaning: { Self → TheKey → Meaning };
 
     // Lengths and lists are bounded: each implementation gives the proof.
-    ghost bounded: { (face : Self) (key : Asked) → Bounded (meaning face key) };
+    ghost bounded: { (face : Self) (key : TheKey) → Bounded (meaning face key) };
 
     // Which of the three it is, with the fault, or with what a construction has besides its entries.
     fn look(&self, key: Key) -> Result<Option<Look>, Fault>

@@ -48,11 +48,14 @@ fn run(rt: &LibcRuntime) -> Result<(), Stop> {
     Ok(())
 }
 
-// A refusal is an answer: it is printed, and the program ends as it should.
+// A refusal is an answer: it is printed, and the program ends as it should. An error is told, and fails it.
 fn end_early(rt: &LibcRuntime, stop: Stop) -> Result<(), AnyError> {
     match stop {
         Stop::Refused(refused) => println!(rt, "{refused}")?,
-        Stop::Failed(error) => return Err(error),
+        Stop::Failed(error) => {
+            eprintln!(rt, "signs: {error}")?;
+            return Err(error);
+        }
     }
     Ok(())
 }
@@ -60,6 +63,6 @@ fn end_early(rt: &LibcRuntime, stop: Stop) -> Result<(), AnyError> {
 fn main(rt: LibcRuntime) -> Result<(), AnyError> {
     match run(&rt) {
         Ok(()) => Ok(()),
-        Err(stop) => rt.report(end_early(&rt, stop)),
+        Err(stop) => end_early(&rt, stop),
     }
 }

@@ -2,9 +2,10 @@ ghost use mathlib.Core.Path.{_≡_};
 use math_table::Refusal;
 use std::fmt;
 
-// Why the program itself refuses an input, with the number that it answers.
+// Why the program itself refuses an input.
 #[derive(Clone, Copy)]
-pub(crate) enum Cause {
+enum InputRefusal {
+    // Has the input at most 65,536 bytes?
     TooLong = 13,
 }
 
@@ -22,7 +23,7 @@ impl Refused {
     {
         Refused {
             input,
-            number: Cause::TooLong as u8,
+            number: InputRefusal::TooLong as u8,
             wrong: "more than 65536 bytes",
         }
     }
