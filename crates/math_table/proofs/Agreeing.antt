@@ -1,20 +1,16 @@
 -- The shape that the code works out agrees with what the table means.
-use Prim.Native.Nat.{ℕ, zero, suc, _+_, _*_, _≤_, _<_}
-use native.Mathlib.Nat.{add-assoc, mul-suc, mul-zero}
+use Prim.Native.Nat.{ℕ, zero, suc, _+_, _*_}
+use native.Mathlib.Nat.{mul-suc, mul-zero}
 use native.Mathlib.Omega.{arith}
-use mathlib.Core.Bool.{Bool, cond, true, false}
+use mathlib.Core.Bool.{cond, true, false}
 use mathlib.Core.List.{List, [], _∷_}
-use mathlib.Core.Path.{_≡_, refl, sym, ap, _∙_}
+use mathlib.Core.Path.{_≡_, refl, sym, _∙_}
 use denote.Ref.{now}
-use lib.Dec.{eqb, ltb}
-use lib.ListN.{length}
-use Rattle.std.proofs.shelf.Ways.{tells}
-use Rattle.std.specs.Results.{okPart}
+use lib.Dec.{eqb}
 use Rattle.std.specs.declared.option.Option.{Option}
 use Rattle.std.specs.declared.option.Option.the-variants.{Some, None}
 use Rattle.std.specs.declared.result.Result.{Result}
 use Rattle.std.specs.declared.result.Result.the-variants.{Ok, Err}
-use Rattle.std.specs.shelf.Maps.{nth}
 use Rattle.face.specs.declared.faults.Fault.{Fault}
 use Rattle.face.specs.declared.keys.Key.{Key}
 use Rattle.face.specs.declared.parts.Part.{Part}
@@ -30,8 +26,8 @@ use Rattle.math_table.specs.Making.{meant}
 use Rattle.math_table.specs.Meanings.{constructionAt, offered, meaningOf}
 use Rattle.math_table.specs.MathVariants.{located}
 use Rattle.math_table.specs.Reading.{word, bind, onFound, entries}
-use Rattle.math_table.specs.Shapes.{wordsInside, run, partRun, shapeAt, shaped, shapeLook, entryOf, shapeVariant, shapePart}
-use Rattle.math_table.proofs.Inversion.{bind-ok, entries-length}
+use Rattle.math_table.specs.Shapes.{wordsInside, run, partRun, shapeAt, shaped, shapeLook, shapeVariant, shapePart}
+use Rattle.math_table.proofs.Indexing.{entries-stand}
 
 -- only whether a word is inside the table counts
 word-first : {X : Type 0} (w : Result ℕ Fault) (next : ℕ → Result X Fault) (rest : Result (Unit {0}) Fault) → ((x : ℕ) → bind (next x) (λ _. Ok tt) ≡ rest) → bind (bind w next) (λ _. Ok tt) ≡ bind w (λ _. rest)
@@ -148,46 +144,25 @@ module _ (table : List ℕ) (face : ℕ) (key : Key) where
     by (Ok None) = unknown
     by (Err f) = fault
 
--- the entry at an index stands so many sizes after the first
-entry-at : {X : Type 0} (read : ℕ → Result X Fault) (size n place : ℕ) (xs : List X) → entries read size n place ≡ Ok xs → (i : ℕ) → nth xs i ≡ cond (ltb i n) (okPart (read (place + size * i))) None
-entry-at read size zero place xs e i =
-    let none : [] ≡ xs = cc in
-    let past : ltb i 0 ≡ false = grind (arith, tells) in
-    rw (sym none, past)
-entry-at read size (suc n) place xs e zero =
-    let a = bind-ok (read place) _ xs e in
-    let b = bind-ok (entries read size n (place + size)) _ xs (a .2) in
-    let l : (a .0 ∷ b .0) ≡ xs = cc (b .2) in
-    let here : ltb 0 (suc n) ≡ true = grind (arith, tells) in
-    let at : place + size * zero ≡ place = omega arith in
-    rw (here, at) (ap (λ ys. nth ys 0) (sym l) ∙ sym (ap okPart (a .1)))
-entry-at read size (suc n) place xs e (suc i) =
-    let a = bind-ok (read place) _ xs e in
-    let b = bind-ok (entries read size n (place + size)) _ xs (a .2) in
-    let l : (a .0 ∷ b .0) ≡ xs = cc (b .2) in
-    let below : ltb (suc i) (suc n) ≡ ltb i n = grind (arith, tells) in
-    let at : place + size * suc i ≡ place + size + size * i = omega (arith, mul-suc size i) in
-    rw (below, at) (ap (λ ys. nth ys (suc i)) (sym l) ∙ entry-at read size n (place + size) (b .0) (b .1) i)
-
 -- so the shape answers every question
 module _ (m : MathTable) (key : Key) where
   look-answered : {r : Result (Option Construction) Fault} {s : Result (Option Shape) Fault} → Agrees (now (m .table)) (m .face) key r s → looked (meaningOf r) ≡ shapeLook s
   look-answered fault = refl
   look-answered unknown = refl
   look-answered (known {s} v p) =
-      let variants = entries-length _ _ _ _ _ v in
-      let parts = entries-length _ _ _ _ _ p in
+      let variants = entries-stand _ _ _ _ _ v .0 in
+      let parts = entries-stand _ _ _ _ _ p .0 in
       λ i. Ok (Some (record { limit = LARGEST; least = s .least; variants = variants i; parts = parts i }))
 
   variant-answered : {r : Result (Option Construction) Fault} {s : Result (Option Shape) Fault} → Agrees (now (m .table)) (m .face) key r s → (i : ℕ) → variantAt (meaningOf r) i ≡ shapeVariant m key s i
   variant-answered fault i = refl
   variant-answered unknown i = refl
-  variant-answered (known v p) i = entry-at _ _ _ _ _ v i
+  variant-answered (known v p) i = entries-stand _ _ _ _ _ v .1 i
 
   part-answered : {r : Result (Option Construction) Fault} {s : Result (Option Shape) Fault} → Agrees (now (m .table)) (m .face) key r s → (i : ℕ) → partAt (meaningOf r) i ≡ shapePart m key s i
   part-answered fault i = refl
   part-answered unknown i = refl
-  part-answered (known v p) i = entry-at _ _ _ _ _ p i
+  part-answered (known v p) i = entries-stand _ _ _ _ _ p .1 i
 
   abbrev shape : Result (Option Shape) Fault
   shape = shaped (now (m .table)) key

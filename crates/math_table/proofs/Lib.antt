@@ -1,7 +1,7 @@
 pub mod Agreeing
 pub mod GlyphIndexes
 pub mod Holding
-pub mod Inversion
+pub mod Indexing
 pub mod KnownSteps
 pub mod LocatedIsKnown
 pub mod OfferedIsKnown

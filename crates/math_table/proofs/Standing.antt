@@ -51,6 +51,10 @@ module _ {X : Type 0} {P : X → Type 0} {Q : Fault → Type 0} where
   comes-with (answer p) = answer (p, refl)
   comes-with (fault q) = fault q
 
+  pub answer-holds : {r : Result X Fault} {x : X} → Comes Q P r → r ≡ Ok x → P x
+  answer-holds {x} (answer {x = y} p) e = let same : y ≡ x = cc in subst P same p
+  answer-holds (fault q) e = absurd (grind arith)
+
   pub fault-holds : {r : Result X Fault} {f : Fault} → Comes Q P r → r ≡ Err f → Q f
   fault-holds (answer p) e = absurd (grind arith)
   fault-holds {f} (fault {f = g} q) e = let same : g ≡ f = cc in subst Q same q

@@ -2,12 +2,12 @@
 use Prim.Native.Nat.{ℕ, zero, suc, _+_, _*_, _-_, _/_, _≤_, _<_}
 use native.Mathlib.Nat.{add-zero}
 use native.Mathlib.Omega.{arith}
-use mathlib.Core.Bool.{cond, true, false}
+use mathlib.Core.Bool.{true, false}
 use mathlib.Core.List.{List, []}
 use mathlib.Core.Logic.{⊎-elim}
 use mathlib.Core.Path.{_≡_, refl, ap, sym, _∙_}
 use lib.Dec.{leb}
-use lib.ListN.{length, getD, drop, length-drop}
+use lib.ListN.{length, drop, length-drop}
 use lib.Seq.{getD-drop}
 use denote.Ref.{RefT}
 use Rattle.std.proofs.shelf.Lists.{drop-all, take-rest}
@@ -20,7 +20,7 @@ use Rattle.std.specs.declared.option.Option.the-variants.{Some, None}
 use Rattle.std.specs.declared.result.Result.the-variants.{Ok, Err}
 use Rattle.face.specs.declared.faults.Cause.the-variants.{OutsideTable}
 use Rattle.face.specs.declared.keys.Key.{Key}
-use Rattle.math_table.specs.Reading.{wordAt, word, faultAt}
+use Rattle.math_table.specs.Reading.{wordAt, faultAt}
 use Rattle.math_table.specs.Shapes.{wordsInside}
 
 -- a tail begins with the word at its place

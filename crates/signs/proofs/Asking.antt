@@ -1,20 +1,17 @@
 -- A question that is written is read again.
 use Prim.Native.Nat.{ℕ, _^_, _<_, _≤_}
 use mathlib.Core.List.{List}
-use mathlib.Core.Path.{_≡_, refl, ap, _∙_}
+use mathlib.Core.Path.{_≡_, ap, _∙_}
 use native.Mathlib.Omega.{arith}
 use Rattle.std.proofs.shelf.Tests.{le-leb}
 use Rattle.std.specs.Written.{decimal as written}
 use Rattle.std.specs.declared.option.Option.the-variants.{Some}
-use Rattle.std.specs.declared.result.Result.{Result}
 use Rattle.std.specs.declared.result.Result.the-variants.{Ok}
 use Rattle.face.specs.declared.keys.Axis.{Axis}
 use Rattle.face.specs.declared.keys.Axis.the-variants.{Upright, Level}
-use Rattle.face.specs.declared.keys.Key.{Key}
 use Rattle.text.proofs.Joining.{after-without, what-is-joined-is-cut-there}
 use Rattle.text.proofs.Written.{a-number-is-read-as-it-is-written, written-without}
 use Rattle.text.specs.Numbers.{numeral}
-use Rattle.signs.specs.declared.questions.BadLine.{BadLine}
 use Rattle.signs.specs.Laws.{axisNumber, AQuestionIsReadAsItIsWritten}
 use Rattle.signs.specs.Questions.{parted, glyphOf, axisOf, keyed, fielded}
 
