@@ -12,17 +12,17 @@ LARGEST = 16777216
 abbrev pub MOST : ℕ
 MOST = 65535
 
--- every length is at most the largest, and no list is too long
-pub record Within (c : Construction) : Type 0 where
+-- no length is above the longest, the limit not above the largest, and no list too long
+pub record Within (longest : ℕ) (c : Construction) : Type 0 where
   pub limit : c .limit ≤ LARGEST
-  pub least : c .least ≤ LARGEST
-  pub advances : All (λ v. v .advance ≤ LARGEST) (c .variants)
-  pub fulls : All (λ p. p .full ≤ LARGEST) (c .parts)
+  pub least : c .least ≤ longest
+  pub advances : All (λ v. v .advance ≤ longest) (c .variants)
+  pub fulls : All (λ p. p .full ≤ longest) (c .parts)
   pub variants : length (c .variants) ≤ MOST
   pub parts : length (c .parts) ≤ MOST
 
--- what every implementation of a face shows of every key
-abbrev pub Bounded : Meaning → Type 0
-Bounded unknown = Unit {0}
-Bounded (faulty f) = Unit {0}
-Bounded (construction c) = Within c
+-- the construction of a key, if it has one, is not too large
+abbrev pub Bounded : ℕ → Meaning → Type 0
+Bounded longest unknown = Unit {0}
+Bounded longest (faulty f) = Unit {0}
+Bounded longest (construction c) = Within longest c

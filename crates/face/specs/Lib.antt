@@ -1,3 +1,4 @@
 pub mod Bounds
 pub mod Clamping
+pub mod Faults
 pub mod Meaning

@@ -1,3 +1,6 @@
+ghost use mathlib.Core.Path.{_≡_};
+ghost use Rattle.face.specs.Faults.{passedUp};
+
 // The question that a face had to answer with no.
 #[derive(Clone, Copy, PartialEq, Eq, Debug)]
 pub enum Cause {
@@ -23,10 +26,22 @@ pub enum Layer {
 pub struct Fault {
     pub cause: Cause,
     pub layer: Layer,
-    // Where: for a table the byte offset of the word.
+    // Where: for a table the byte offset of the word, for a scale which length.
     pub place: u32,
     // The key's glyph.
     pub glyph: u16,
     // How many layers passed the fault up, at most 255.
     pub passed: u8,
+}
+
+impl Fault {
+    // The fault as one more layer passes it up: whole, and counted.
+    pub fn passed_up(self) -> Fault
+        ensures { λ r. ⌜ r ≡ passedUp self ⌝ }
+    {
+        Fault {
+            passed: self.passed.saturating_add(1),
+            ..self
+        }
+    }
 }

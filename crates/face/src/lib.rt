@@ -1,5 +1,6 @@
 // A face: what a font offers for a sign that stretches.
 // Types, the trait `Face` and its meaning. Nothing here reads bytes.
+pub mod bounds;
 mod clamping;
 pub mod faces;
 pub mod faults;
@@ -8,6 +9,7 @@ pub mod looks;
 pub mod parts;
 pub mod variants;
 
+pub use bounds::LARGEST;
 pub use faces::Face;
 pub use faults::Cause;
 pub use faults::Fault;

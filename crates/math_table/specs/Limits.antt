@@ -21,7 +21,7 @@ use Rattle.math_table.specs.Constructions.{variantEntry, partEntry, variantLis
 use Rattle.math_table.specs.MathVariants.{covered, constructionOffset, located}
 use Rattle.math_table.specs.Meanings.{offered, meaningOf, mathMeaning}
 use Rattle.math_table.specs.Outcomes.{Comes, answer, fault, IfFound, nothing, found, comes-bind, comes-so, comes-onFound, comes-if-zero, comes-via, comes-entries}
-use Rattle.math_table.specs.Reading.{byteAt, faultAt, word, entries}
+use Rattle.math_table.specs.Reading.{LARGEST-WORD, byteAt, faultAt, word, entries}
 
 abbrev Any : {X : Type 0} → X → Type 0
 Any x = Unit {0}
@@ -39,19 +39,19 @@ abbrev Short : {X : Type 0} → (X → Type 0) → List X → Type 0
 Short P xs = All P xs × (length xs ≤ MOST)
 
 module _ (table : List ℕ) (face : ℕ) (key : Key) where
-  word-small : (place : ℕ) → Comes Any (λ w. w ≤ MOST) (word table key place)
+  word-small : (place : ℕ) → Comes Any (λ w. w ≤ LARGEST-WORD) (word table key place)
   word-small place =
       elim (leb (place + 2) (length table))
-      as (λ b. Comes Any (λ w. w ≤ MOST) (okOr (cond b (Some (byteAt table place * 256 + byteAt table (place + 1))) None) (faultAt OutsideTable key place)))
+      as (λ b. Comes Any (λ w. w ≤ LARGEST-WORD) (okOr (cond b (Some (byteAt table place * 256 + byteAt table (place + 1))) None) (faultAt OutsideTable key place)))
       [ true ↦ answer (omega arith) | false ↦ fault tt ]
 
-  variant-small : (place : ℕ) → Comes Any (λ v. v .advance ≤ LARGEST) (variantEntry table face key place)
+  variant-small : (place : ℕ) → Comes Any (λ v. v .advance ≤ LARGEST-WORD) (variantEntry table face key place)
   variant-small place =
       comes-bind (word-small place) (λ glyph _.
       comes-bind (word-small (place + 2)) (λ advance small.
       answer (omega arith)))
 
-  part-small : (place : ℕ) → Comes Any (λ p. p .full ≤ LARGEST) (partEntry table face key place)
+  part-small : (place : ℕ) → Comes Any (λ p. p .full ≤ LARGEST-WORD) (partEntry table face key place)
   part-small place =
       comes-bind (word-small place) (λ glyph _.
       comes-bind (word-small (place + 2)) (λ start _.
@@ -66,16 +66,16 @@ module _ (table : List ℕ) (face : ℕ) (key : Key) where
       comes-so (comes-entries size (λ n place xs. All P xs × (length xs ≡ n)) (λ place. (tt, refl)) (λ n place x xs p rest. ((p, rest .0), ap suc (rest .1))) reads n place)
       (λ xs all. (all .0, omega arith))
 
-  variants-short : (place : ℕ) → Comes Any (Short (λ v. v .advance ≤ LARGEST)) (variantList table face key place)
+  variants-short : (place : ℕ) → Comes Any (Short (λ v. v .advance ≤ LARGEST-WORD)) (variantList table face key place)
   variants-short place = comes-bind (word-small (place + 2)) (λ n small. entries-short 4 variant-small n (place + 4) small)
 
-  parts-short : (place offset : ℕ) → Comes Any (Short (λ p. p .full ≤ LARGEST)) (assemblyParts table face key place offset)
+  parts-short : (place offset : ℕ) → Comes Any (Short (λ p. p .full ≤ LARGEST-WORD)) (assemblyParts table face key place offset)
   parts-short place offset =
       comes-if-zero offset
       (λ _. answer (tt, omega arith))
       (λ _. comes-bind (word-small (place + offset + 4)) (λ n small. entries-short 10 part-small n (place + offset + 6) small))
 
-  located-small : Comes Any (IfFound (Unit {0}) (λ l. l .least ≤ LARGEST)) (located table key)
+  located-small : Comes Any (IfFound (Unit {0}) (λ l. l .least ≤ LARGEST-WORD)) (located table key)
   located-small =
       comes-via (length table) (λ _. tt) (λ _.
       comes-bind (word-small 8) (λ base _.
@@ -86,7 +86,7 @@ module _ (table : List ℕ) (face : ℕ) (key : Key) where
       comes-via offset (λ _. tt) (λ _.
       answer (found (omega arith))))))))))
 
-  offered-within : Comes Any (IfFound (Unit {0}) Within) (offered table face key)
+  offered-within : Comes Any (IfFound (Unit {0}) (Within LARGEST-WORD)) (offered table face key)
   offered-within =
       comes-bind located-small (λ o small. comes-onFound small (λ _. tt) (λ l small.
       comes-bind (word-small (l .place)) (λ assembly _.
@@ -94,10 +94,13 @@ module _ (table : List ℕ) (face : ℕ) (key : Key) where
       comes-bind (parts-short (l .place) assembly) (λ parts few.
       answer (found (record { limit = omega arith; least = small; advances = short .0; fulls = few .0; variants = short .1; parts = few .1 })))))))
 
-bounded : {r : Result (Option Construction) Fault} → Comes Any (IfFound (Unit {0}) Within) r → Bounded (meaningOf r)
+bounded : {r : Result (Option Construction) Fault} → Comes Any (IfFound (Unit {0}) (Within LARGEST-WORD)) r → Bounded LARGEST-WORD (meaningOf r)
 bounded (answer (nothing _)) = tt
 bounded (answer (found within)) = within
 bounded (fault q) = tt
 
-pub bounded-math : (table : List ℕ) (face : ℕ) (key : Key) → Bounded (mathMeaning table face key)
+pub bounded-math : (table : List ℕ) (face : ℕ) (key : Key) → Bounded LARGEST-WORD (mathMeaning table face key)
 bounded-math table face key = bounded (offered-within table face key)
+
+pub word-largest : LARGEST-WORD ≤ LARGEST
+word-largest = omega arith

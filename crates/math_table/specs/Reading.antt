@@ -24,6 +24,10 @@ abbrev pub wordAt : List ℕ → ℕ → Option ℕ
 wordAt table place =
     cond (leb (place + 2) (length table)) (Some (byteAt table place * 256 + byteAt table (place + 1))) None
 
+-- two bytes tell no number above this
+abbrev pub LARGEST-WORD : ℕ
+LARGEST-WORD = 65535
+
 -- a fault of the table itself, at an offset
 abbrev pub faultAt : Cause → Key → ℕ → Fault
 faultAt cause key place = record { cause = cause; layer = Math; place = place; glyph = key .glyph; passed = 0 }

@@ -4,8 +4,9 @@ ghost use denote.Ref.{now};
 ghost use Rattle.std.specs.Slices.{found};
 ghost use Rattle.std.specs.Vec.{made};
 ghost use Rattle.face.specs.Meaning.{looked, variantAt, partAt};
-ghost use Rattle.math_table.specs.Limits.{bounded-math};
+ghost use Rattle.math_table.specs.Limits.{word-largest, bounded-math};
 ghost use Rattle.math_table.specs.Making.{wellFormed, Making, meant};
+ghost use Rattle.math_table.specs.Reading.{LARGEST-WORD};
 ghost use Rattle.math_table.specs.Shapes.{shapeLook, shapeVariant, shapePart};
 use crate::entries::part_at;
 use crate::entries::variant_at;
@@ -14,12 +15,13 @@ use crate::shapes::shape_of;
 use face::Face;
 use face::Fault;
 use face::Key;
+use face::LARGEST;
 use face::Look;
 use face::Part;
 use face::Variant;
 
-// The largest size of a sign that a table offers.
-const LIMIT: u32 = 16_777_216;
+// Every length in a table is a word, and this the largest.
+const LARGEST_WORD: u32 = 65_535;
 
 // A face over the bytes of a MATH table. Empty bytes know no key.
 #[derive(Clone, Copy)]
@@ -72,6 +74,10 @@ impl<'a> MathTable<'a> {
 pub impl<'a> Face for MathTable<'a> as MathTableFace {
     ghost meaning = { meant };
 
+    ghost reach = { λ s. LARGEST-WORD };
+
+    ghost largest = { λ s. word-largest };
+
     ghost bounded = { λ s key. bounded-math (now (s .table)) (s .face) key };
 
     fn look(&self, key: Key) -> Result<Option<Look>, Fault> {
@@ -79,7 +85,7 @@ pub impl<'a> Face for MathTable<'a> as MathTableFace {
             return Ok(None);
         };
         Ok(Some(Look {
-            limit: LIMIT,
+            limit: LARGEST,
             least: u32::from(shape.least),
             variants: shape.variants.count,
             parts: shape.parts.count,
@@ -105,5 +111,9 @@ pub impl<'a> Face for MathTable<'a> as MathTableFace {
             key,
             run.first + 10 * u32::from(index),
         ).ok()
+    }
+
+    fn longest(&self) -> u32 {
+        LARGEST_WORD
     }
 }

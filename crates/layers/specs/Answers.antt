@@ -1,0 +1,56 @@
+-- What the layers' own functions answer on the way. Contracts of the library do not rest on it: those speak of meanings.
+use Prim.Native.Nat.{ℕ, min, _*_}
+use mathlib.Core.Bool.{Bool, true, false, cond}
+use mathlib.Core.List.{List, []}
+use mathlib.Core.Path.{_≡_}
+use Rattle.std.specs.Options.{mapped}
+use Rattle.std.specs.declared.option.Option.{Option}
+use Rattle.std.specs.declared.option.Option.the-variants.{Some, None}
+use Rattle.std.specs.declared.result.Result.{Result}
+use Rattle.std.specs.declared.result.Result.the-variants.{Ok, Err}
+use Rattle.face.specs.declared.faults.Fault.{Fault}
+use Rattle.face.specs.declared.keys.Key.{Key}
+use Rattle.face.specs.declared.looks.Look.{Look}
+use Rattle.face.specs.declared.parts.Part.{Part}
+use Rattle.face.specs.declared.variants.Variant.{Variant}
+use Rattle.face.specs.Bounds.{LARGEST}
+use Rattle.face.specs.Clamping.{Clamped}
+use Rattle.face.specs.Faults.{passedUp}
+use Rattle.face.specs.Meaning.{Meaning, unknown, faulty, construction, variantAt, partAt}
+use Rattle.layers.specs.Scaling.{lengths, tooLongAt}
+
+-- an answer whose fault one more layer passes up
+abbrev pub raisedAnswer : Result (Option Look) Fault → Result (Option Look) Fault
+raisedAnswer (Ok look) = Ok look
+raisedAnswer (Err f) = Err (passedUp f)
+
+-- a length times k, and the largest where that is longer
+abbrev pub times : ℕ → ℕ → ℕ
+times k length = min (k * length) LARGEST
+
+-- what a scale answers to look, by what the face below answered and by the first place that is too long
+abbrev pub lookedAt : ℕ → Key → Look → Option ℕ → Result (Option Look) Fault
+lookedAt k key below None =
+    Ok (Some (record { limit = times k (below .limit); least = times k (below .least); variants = below .variants; parts = below .parts }))
+lookedAt k key below (Some place) = Err (tooLongAt key place)
+
+-- the variant that a scale makes of one below
+abbrev pub variantFrom : ℕ → Variant → Variant
+variantFrom k v = record { face = v .face; glyph = v .glyph; advance = times k (v .advance) }
+
+-- how a scale makes a part of one below
+abbrev pub PartFrom : ℕ → Part → Part → Type 0
+PartFrom k p q = Clamped (p .face) (p .glyph) (times k (p .start)) (times k (p .end)) (times k (p .full)) (p .extender) q
+
+-- the lengths of a key by their places: none without a construction
+abbrev pub lengthsOf : Meaning → List ℕ
+lengthsOf unknown = []
+lengthsOf (faulty f) = []
+lengthsOf (construction c) = lengths c
+
+-- the entries of a scaled key: those below with their lengths multiplied if all fit, else none
+pub record Entries (k : ℕ) (m above : Meaning) (all-fit : Bool) : Type 0 where
+  pub variants : (i : ℕ) → variantAt above i ≡ cond all-fit (mapped (variantFrom k) (variantAt m i)) None
+  pub parts : (i : ℕ) (p q : Part) → all-fit ≡ true → partAt m i ≡ Some p → PartFrom k p q → partAt above i ≡ Some q
+  pub past-parts : (i : ℕ) → partAt m i ≡ None → partAt above i ≡ None
+  pub no-parts : (i : ℕ) → all-fit ≡ false → partAt above i ≡ None

@@ -1,0 +1,4 @@
+pub mod Answers
+pub mod Layers
+pub mod Limits
+pub mod Scaling

@@ -1,0 +1,65 @@
+ghost use Prim.Native.Nat.{min};
+ghost use mathlib.Core.Path.{_≡_};
+ghost use Rattle.face.specs.Bounds.{LARGEST as Largest};
+ghost use Rattle.layers.specs.Layers.{capped};
+ghost use Rattle.layers.specs.Limits.{bounded-capped};
+use crate::passing::passed_up;
+use face::Face;
+use face::Fault;
+use face::Key;
+use face::LARGEST;
+use face::Look;
+use face::Part;
+use face::Variant;
+
+// Lowers the limit of a face where it is larger.
+#[derive(Clone, Copy)]
+pub struct Cap<F> {
+    face: F,
+    most: u32,
+}
+
+impl<F: Face> Cap<F> {
+    // A limit above the largest length counts as that.
+    pub fn new(face: F, most: u32) -> Cap<F>
+        ensures face { λ r. ⌜ r .face ≡ face ⌝ }
+        ensures most { λ r. ⌜ r .most ≡ min most Largest ⌝ }
+    {
+        Cap {
+            face,
+            most: most.min(LARGEST),
+        }
+    }
+}
+
+pub impl<F: Face> Face for Cap<F> as CapFace {
+    ghost meaning = { λ s key. capped (s .most) (F·Face .meaning (s .face) key) };
+
+    ghost reach = { λ s. F·Face .reach (s .face) };
+
+    ghost largest = { λ s. F·Face .largest (s .face) };
+
+    ghost bounded = { λ s key. bounded-capped (s .most) (F·Face .reach (s .face)) (F·Face .meaning (s .face) key) (F·Face .bounded (s .face) key) };
+
+    fn look(&self, key: Key) -> Result<Option<Look>, Fault> {
+        let Some(below) = passed_up(self.face.look(key))? else {
+            return Ok(None);
+        };
+        Ok(Some(Look {
+            limit: below.limit.min(self.most),
+            ..below
+        }))
+    }
+
+    fn variant(&self, key: Key, index: u16) -> Option<Variant> {
+        self.face.variant(key, index)
+    }
+
+    fn part(&self, key: Key, index: u16) -> Option<Part> {
+        self.face.part(key, index)
+    }
+
+    fn longest(&self) -> u32 {
+        self.face.longest()
+    }
+}
