@@ -1,3 +1,5 @@
+pub mod Judging
 pub mod Places
 pub mod ScaledAnswers
 pub mod Searching
+pub mod Unchanging

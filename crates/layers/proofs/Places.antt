@@ -26,12 +26,12 @@ nth-map f (x ∷ xs) zero = refl
 nth-map f (x ∷ xs) (suc i) = nth-map f xs i
 
 -- the entry of two lists, one after the other
-nth-front : {X : Type 0} (xs ys : List X) (i : ℕ) → i < length xs → nth (xs ++ ys) i ≡ nth xs i
+pub nth-front : {X : Type 0} (xs ys : List X) (i : ℕ) → i < length xs → nth (xs ++ ys) i ≡ nth xs i
 nth-front [] ys i less = absurd (omega arith)
 nth-front (x ∷ xs) ys zero less = refl
 nth-front (x ∷ xs) ys (suc i) less = nth-front xs ys i (omega arith)
 
-nth-back : {X : Type 0} (xs ys : List X) (i : ℕ) → nth (xs ++ ys) (length xs + i) ≡ nth ys i
+pub nth-back : {X : Type 0} (xs ys : List X) (i : ℕ) → nth (xs ++ ys) (length xs + i) ≡ nth ys i
 nth-back [] ys i = let is : 0 + i ≡ i = omega arith in rw is
 nth-back (x ∷ xs) ys i = let is : length (x ∷ xs) + i ≡ suc (length xs + i) = omega arith in rw is (nth-back xs ys i)
 

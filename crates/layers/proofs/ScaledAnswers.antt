@@ -4,9 +4,9 @@ use native.Mathlib.Nat.{mul-le-mul-left}
 use native.Mathlib.Omega.{arith}
 use mathlib.Core.Bool.{Bool, true, false}
 use mathlib.Core.List.{List, [], _∷_, map}
-use mathlib.Core.Path.{_≡_, refl, sym, ap, subst, _∙_}
+use mathlib.Core.Path.{_≡_, refl, ap, _∙_}
 use lib.ListN.{length-map}
-use Rattle.std.proofs.shelf.Tests.{true≢false, false≢true}
+use Rattle.std.proofs.shelf.Tests.{false≢true}
 use Rattle.std.specs.Options.{mapped}
 use Rattle.std.specs.declared.option.Option.{Option}
 use Rattle.std.specs.declared.option.Option.the-variants.{Some, None}
@@ -22,10 +22,9 @@ use Rattle.face.specs.declared.variants.Variant.{Variant}
 use Rattle.face.specs.Bounds.{LARGEST}
 use Rattle.face.specs.Meaning.{Meaning, unknown, faulty, construction, Construction, summary, looked, variantsOf, partsOf}
 use Rattle.face.proofs.SameParts.{same-part}
-use Rattle.layers.specs.Answers.{times, lookedAt, variantFrom, PartFrom, lengthsOf, Entries}
+use Rattle.layers.specs.Answers.{times, lookedAt, variantFrom, partFrom, lengthsOf, Entries}
 use Rattle.layers.specs.Limits.{fitting}
 use Rattle.layers.specs.Scaling.{scaledVariant, scaledPart, scaledConstruction, lengths, firstTooLong, judged, scaled}
-use Rattle.layers.proofs.Places.{nth-map}
 
 -- did look find a construction?
 abbrev pub isKnown : Result (Option Look) Fault → Bool
@@ -67,31 +66,22 @@ module _ (k : ℕ) (key : Key) where
       let advance = whole k (v .advance) (fit .0) in
       ((λ i. record { face = v .face; glyph = v .glyph; advance = advance i }), same-variants vs (fit .1))
 
-  part-from : (p q : Part) → k * p .full ≤ LARGEST → PartFrom k p q → scaledPart k p ≡ q
-  part-from p q fits made =
-      let full = whole k (p .full) fits in
+  part-whole : (p : Part) → k * p .full ≤ LARGEST → scaledPart k p ≡ partFrom k p
+  part-whole p fits =
       let start = mul-le-mul-left k (p .starts) in
       let end = mul-le-mul-left k (p .ends) in
-      same-part (scaledPart k p) q
-      (sym (made .face-is)) (sym (made .glyph-is))
-      (omega (arith, made .start-is)) (omega (arith, made .end-is))
-      (omega (arith, made .full-is)) (sym (made .extender-is))
+      same-part (scaledPart k p) (partFrom k p) refl refl (omega arith) (omega arith) (whole k (p .full) fits) refl
 
-  same-parts : (ps : List Part) → All (λ x. k * x ≤ LARGEST) (map (λ p. p .full) ps) → (i : ℕ) (p q : Part) → nth ps i ≡ Some p → PartFrom k p q → nth (map (scaledPart k) ps) i ≡ Some q
-  same-parts [] fit i p q at made = let z : _≡_ {A = ℕ} 0 1 = cc in absurd (omega arith)
-  same-parts (r ∷ ps) fit zero p q at made =
-      let is : r ≡ p = cc in
-      ap Some (part-from r q (fit .0) (subst (λ x. PartFrom k x q) (sym is) made))
-  same-parts (r ∷ ps) fit (suc i) p q at made = same-parts ps (fit .1) i p q at made
+  same-parts : (ps : List Part) → All (λ x. k * x ≤ LARGEST) (map (λ p. p .full) ps) → All (λ p. scaledPart k p ≡ partFrom k p) ps
+  same-parts [] fit = tt
+  same-parts (p ∷ ps) fit = (part-whole p (fit .0), same-parts ps (fit .1))
 
   entries-of : (m above : Meaning) → All (λ x. k * x ≤ LARGEST) (map (λ v. v .advance) (variantsOf m)) → All (λ x. k * x ≤ LARGEST) (map (λ p. p .full) (partsOf m))
       → variantsOf above ≡ map (scaledVariant k) (variantsOf m) → partsOf above ≡ map (scaledPart k) (partsOf m) → Entries k m above true
   entries-of m above advances fulls variants parts =
       record {
         variants = λ i. ap (λ vs. nth vs i) variants ∙ same-entries (scaledVariant k) (variantFrom k) (variantsOf m) (same-variants (variantsOf m) advances) i;
-        parts = λ i p q _ at made. ap (λ ps. nth ps i) parts ∙ same-parts (partsOf m) fulls i p q at made;
-        past-parts = λ i past. ap (λ ps. nth ps i) parts ∙ nth-map (scaledPart k) (partsOf m) i ∙ ap (mapped (scaledPart k)) past;
-        no-parts = λ i no. absurd (true≢false no);
+        parts = λ i. ap (λ ps. nth ps i) parts ∙ same-entries (scaledPart k) (partFrom k) (partsOf m) (same-parts (partsOf m) fulls) i;
       }
 
   pub entries-scaled : (m : Meaning) → firstTooLong k 0 (lengthsOf m) ≡ None → Entries k m (scaled k key m) true

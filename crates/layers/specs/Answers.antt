@@ -1,6 +1,6 @@
 -- What the layers' own functions answer on the way. Contracts of the library do not rest on it: those speak of meanings.
 use Prim.Native.Nat.{ℕ, min, _*_}
-use mathlib.Core.Bool.{Bool, true, false, cond}
+use mathlib.Core.Bool.{Bool, cond}
 use mathlib.Core.List.{List, []}
 use mathlib.Core.Path.{_≡_}
 use Rattle.std.specs.Options.{mapped}
@@ -14,7 +14,7 @@ use Rattle.face.specs.declared.looks.Look.{Look}
 use Rattle.face.specs.declared.parts.Part.{Part}
 use Rattle.face.specs.declared.variants.Variant.{Variant}
 use Rattle.face.specs.Bounds.{LARGEST}
-use Rattle.face.specs.Clamping.{Clamped}
+use Rattle.face.specs.Clamping.{Clamped, clampedPart}
 use Rattle.face.specs.Faults.{passedUp}
 use Rattle.face.specs.Meaning.{Meaning, unknown, faulty, construction, variantAt, partAt}
 use Rattle.layers.specs.Scaling.{lengths, tooLongAt}
@@ -38,9 +38,13 @@ lookedAt k key below (Some place) = Err (tooLongAt key place)
 abbrev pub variantFrom : ℕ → Variant → Variant
 variantFrom k v = record { face = v .face; glyph = v .glyph; advance = times k (v .advance) }
 
--- how a scale makes a part of one below
+-- how a scale makes a part of one below,
 abbrev pub PartFrom : ℕ → Part → Part → Type 0
 PartFrom k p q = Clamped (p .face) (p .glyph) (times k (p .start)) (times k (p .end)) (times k (p .full)) (p .extender) q
+
+-- and the one part that it makes
+abbrev pub partFrom : ℕ → Part → Part
+partFrom k p = clampedPart (p .face) (p .glyph) (times k (p .start)) (times k (p .end)) (times k (p .full)) (p .extender)
 
 -- the lengths of a key by their places: none without a construction
 abbrev pub lengthsOf : Meaning → List ℕ
@@ -51,6 +55,4 @@ lengthsOf (construction c) = lengths c
 -- the entries of a scaled key: those below with their lengths multiplied if all fit, else none
 pub record Entries (k : ℕ) (m above : Meaning) (all-fit : Bool) : Type 0 where
   pub variants : (i : ℕ) → variantAt above i ≡ cond all-fit (mapped (variantFrom k) (variantAt m i)) None
-  pub parts : (i : ℕ) (p q : Part) → all-fit ≡ true → partAt m i ≡ Some p → PartFrom k p q → partAt above i ≡ Some q
-  pub past-parts : (i : ℕ) → partAt m i ≡ None → partAt above i ≡ None
-  pub no-parts : (i : ℕ) → all-fit ≡ false → partAt above i ≡ None
+  pub parts : (i : ℕ) → partAt above i ≡ cond all-fit (mapped (partFrom k) (partAt m i)) None

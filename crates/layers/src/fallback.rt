@@ -1,5 +1,4 @@
 ghost use Prim.Native.Nat.{max};
-ghost use mathlib.Core.Path.{_≡_};
 ghost use Rattle.layers.specs.Layers.{fallenBack};
 ghost use Rattle.layers.specs.Limits.{longer-largest, bounded-fallen-back};
 use crate::passing::passed_up;
@@ -13,17 +12,8 @@ use face::Variant;
 // Answers from its first face, and from its second where the first says unknown.
 #[derive(Clone, Copy)]
 pub struct Fallback<A, B> {
-    first: A,
-    second: B,
-}
-
-impl<A: Face, B: Face> Fallback<A, B> {
-    pub fn new(first: A, second: B) -> Fallback<A, B>
-        ensures first { λ r. ⌜ r .first ≡ first ⌝ }
-        ensures second { λ r. ⌜ r .second ≡ second ⌝ }
-    {
-        Fallback { first, second }
-    }
+    pub first: A,
+    pub second: B,
 }
 
 pub impl<A: Face, B: Face> Face for Fallback<A, B> as FallbackFace {

@@ -1,10 +1,11 @@
 ghost use Prim.Native.Nat.{_+_, _≤_, min, max};
 ghost use mathlib.Core.Path.{_≡_};
+ghost use Rattle.std.specs.Options.{mapped};
 ghost use Rattle.std.specs.declared.option.Option.the-variants.{Some};
 ghost use Rattle.std.specs.declared.result.Result.the-variants.{Ok};
 ghost use Rattle.std.specs.shelf.Maps.{nth};
 ghost use Rattle.face.specs.Meaning.{looked};
-ghost use Rattle.layers.specs.Answers.{times as product, lookedAt, PartFrom, lengthsOf, Entries};
+ghost use Rattle.layers.specs.Answers.{times as product, lookedAt, PartFrom, partFrom, lengthsOf, Entries};
 ghost use Rattle.layers.specs.Limits.{times-largest, bounded-scaled};
 ghost use Rattle.layers.specs.Scaling.{firstTooLong, scaled, tooLongAt};
 use crate::lengths::fits;
@@ -42,8 +43,8 @@ fn too_long(key: Key, place: u32) -> Fault
     }
 }
 
-// A part with its full advance and both its connectors scaled.
-fn scaled_part(by: u32, part: Part) -> Part
+// A part with its full advance and both its connectors multiplied.
+fn multiplied(by: u32, part: Part) -> Part
     ensures { λ r. ⌜ PartFrom by part r ⌝ }
 {
     Part::new(
@@ -54,6 +55,13 @@ fn scaled_part(by: u32, part: Part) -> Part
         times(by, part.full),
         part.extender,
     )
+}
+
+// What a scale makes of a part, if there is one.
+fn scaled_part(by: u32, below: Option<Part>) -> Option<Part>
+    ensures { λ r. ⌜ r ≡ mapped (partFrom by) below ⌝ }
+{
+    Some(multiplied(by, below?))
 }
 
 impl<F: Face> Scale<F> {
@@ -159,8 +167,7 @@ pub impl<F: Face> Face for Scale<F> as ScaleFace {
         if !self.scales(key) {
             return None;
         }
-        let below = self.face.part(key, index)?;
-        Some(scaled_part(self.by, below))
+        scaled_part(self.by, self.face.part(key, index))
     }
 
     fn longest(&self) -> u32 {

@@ -1,0 +1,64 @@
+-- Which length of a key is the first that is too long.
+use Prim.Native.Nat.{ℕ, zero, suc, _+_, _*_, _≤_, _<_}
+use native.Mathlib.Omega.{arith}
+use mathlib.Core.Bool.{true, false}
+use mathlib.Core.List.{List, [], _∷_, map}
+use mathlib.Core.Path.{_≡_, refl, ap, _∙_}
+use lib.Dec.{leb}
+use lib.ListN.{length, length-map}
+use Rattle.std.proofs.shelf.Tests.{le-leb, lt-leb}
+use Rattle.std.specs.Options.{mapped}
+use Rattle.std.specs.declared.option.Option.the-variants.{Some, None}
+use Rattle.std.specs.shelf.Maps.{nth}
+use Rattle.face.specs.Bounds.{LARGEST}
+use Rattle.face.specs.Meaning.{Construction}
+use Rattle.layers.specs.Laws.{EachLengthHasAPlace, WhatFitsIsScaled, TheFirstLengthTooLongIsTheFault}
+use Rattle.layers.specs.Scaling.{scaledConstruction, lengths, firstTooLong, judged}
+use Rattle.layers.proofs.Places.{nth-map, nth-front, nth-back}
+
+module _ (k : ℕ) where
+  all-fit-none : (from : ℕ) (xs : List ℕ) → ((q x : ℕ) → nth xs q ≡ Some x → k * x ≤ LARGEST) → firstTooLong k from xs ≡ None
+  all-fit-none from [] fit = refl
+  all-fit-none from (x ∷ xs) fit =
+      rw (le-leb (k * x) LARGEST (fit 0 x refl)) (all-fit-none (from + 1) xs (λ q y at. fit (suc q) y at))
+
+  first-is-found : (from place x : ℕ) (xs : List ℕ) → nth xs place ≡ Some x → LARGEST < k * x → ((q y : ℕ) → q < place → nth xs q ≡ Some y → k * y ≤ LARGEST)
+      → firstTooLong k from xs ≡ Some (from + place)
+  first-is-found from place x [] at long fit = let z : _≡_ {A = ℕ} 0 1 = cc in absurd (omega arith)
+  first-is-found from zero x (y ∷ ys) at long fit =
+      let is : y ≡ x = cc in
+      let here : from + zero ≡ from = omega arith in
+      rw (is, lt-leb (k * x) LARGEST long, here) refl
+  first-is-found from (suc place) x (y ∷ ys) at long fit =
+      let more : from + suc place ≡ from + 1 + place = omega arith in
+      rw (le-leb (k * y) LARGEST (fit 0 y (omega arith) refl), more)
+      (first-is-found (from + 1) place x ys at long (λ q z less at. fit (suc q) z (omega arith) at))
+
+pub what-fits-is-scaled : WhatFitsIsScaled
+what-fits-is-scaled k key c fit =
+    ap (λ o. judged key o (scaledConstruction k c)) (all-fit-none k 0 (lengths c) (λ q x at. fit (suc q) q x (omega arith) at))
+
+pub the-first-length-too-long-is-the-fault : TheFirstLengthTooLongIsTheFault
+the-first-length-too-long-is-the-fault k key c place x at long fit =
+    let here : 0 + place ≡ place = omega arith in
+    ap (λ o. judged key o (scaledConstruction k c)) (first-is-found k 0 place x (lengths c) at long fit ∙ ap Some here)
+
+nth-length : {X : Type 0} (xs : List X) (i : ℕ) (x : X) → nth xs i ≡ Some x → i < length xs
+nth-length [] i x at = let z : _≡_ {A = ℕ} 0 1 = cc in absurd (omega arith)
+nth-length (y ∷ ys) zero x at = omega arith
+nth-length (y ∷ ys) (suc i) x at = omega (arith, nth-length ys i x at)
+
+pub each-length-has-a-place : (c : Construction) → EachLengthHasAPlace c
+each-length-has-a-place c =
+    let vs = map (λ v. v .advance) (c .variants) in
+    let ps = map (λ p. p .full) (c .parts) in
+    let count = length-map (c .variants) (λ v. v .advance) in
+    record {
+      least = refl;
+      variant = λ i v at.
+          let next : 1 + i ≡ suc i = omega arith in
+          ap (nth (lengths c)) next ∙ nth-front vs ps i (omega (arith, nth-length (c .variants) i v at)) ∙ nth-map (λ v. v .advance) (c .variants) i ∙ ap (mapped (λ v. v .advance)) at;
+      part = λ i p at.
+          let next : 1 + length (c .variants) + i ≡ suc (length vs + i) = omega arith in
+          ap (nth (lengths c)) next ∙ nth-back vs ps i ∙ nth-map (λ p. p .full) (c .parts) i ∙ ap (mapped (λ p. p .full)) at;
+    }
