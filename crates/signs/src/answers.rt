@@ -1,7 +1,7 @@
 ghost use mathlib.Core.Path.{_≡_};
 ghost use lib.Chars.{codes};
 ghost use Rattle.face.specs.declared.keys.Axis.the-variants.{Upright, Level};
-use crate::questions::BadLineDisplay;
+use crate::questions::BadQuestionDisplay;
 use crate::questions::question;
 use face::Axis;
 use face::Face;
@@ -75,7 +75,8 @@ fn print_construction<W: Write, F: Face>(
 }
 
 // What a face says of a key.
-fn print_answer<W: Write, F: Face>(out: &mut W, face: &F, key: Key) -> io::Result<()> {
+fn print_key<W: Write, F: Face>(out: &mut W, face: &F, key: Key) -> io::Result<()> {
+    write!(out, "glyph {} {}: ", key.glyph, axis_word(key.axis))?;
     match face.look(key) {
         Ok(None) => writeln!(out, "unknown"),
         Ok(Some(look)) => print_construction(out, face, key, look),
@@ -83,34 +84,20 @@ fn print_answer<W: Write, F: Face>(out: &mut W, face: &F, key: Key) -> io::Resul
     }
 }
 
-// The first face answers; where it does not know the key, the second.
-fn print_key<W: Write, A: Face, B: Face>(
-    out: &mut W,
-    first: &A,
-    second: &B,
-    key: Key,
-) -> io::Result<()> {
-    write!(out, "glyph {} {}: ", key.glyph, axis_word(key.axis))?;
-    match first.look(key) {
-        Ok(None) => print_answer(out, second, key),
-        _ => print_answer(out, first, key),
-    }
-}
-
 // The answers to the questions in a text, one for each line. A bad line is told, and the rest goes on.
-pub(crate) fn answer_lines<W: Write, A: Face, B: Face>(
+// The text follows the first line, which asks nothing, so that its lines are counted from 2.
+pub(crate) fn answer_lines<W: Write, F: Face>(
     out: &mut W,
     text: &[u8],
-    first: &A,
-    second: &B,
+    face: &F,
 ) -> io::Result<()> {
     let mut rest = text;
-    let mut count: usize = 0;
+    let mut count: usize = 1;
     while let Some((line, after)) = next_line(rest) {
         count += 1;
         write!(out, "line {count}: ")?;
         match question(line) {
-            Ok(key) => print_key(out, first, second, key)?,
+            Ok(key) => print_key(out, face, key)?,
             Err(bad) => writeln!(out, "{bad}")?,
         }
         rest = after;

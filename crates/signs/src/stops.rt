@@ -1,3 +1,4 @@
+use crate::piles::BadPile;
 use crate::refusals::Refused;
 use std::error::AnyError;
 use std::io;
@@ -6,12 +7,19 @@ use std::io;
 #[derive(Drop)]
 pub(crate) enum Stop {
     Refused(Refused),
+    NoPile(BadPile),
     Failed(AnyError),
 }
 
 pub(crate) impl From<Refused> for Stop as RefusedStop {
     fn from(refused: Refused) -> Stop {
         Stop::Refused(refused)
+    }
+}
+
+pub(crate) impl From<BadPile> for Stop as BadPileStop {
+    fn from(bad: BadPile) -> Stop {
+        Stop::NoPile(bad)
     }
 }
 
