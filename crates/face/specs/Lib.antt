@@ -1,4 +1,5 @@
 pub mod Bounds
 pub mod Clamping
 pub mod Faults
+pub mod Finding
 pub mod Meaning

@@ -1,3 +1,4 @@
+pub mod Entries
 pub mod Judging
 pub mod Places
 pub mod ScaledAnswers

@@ -1,14 +1,15 @@
 -- The lengths of a key by their places.
-use Prim.Native.Nat.{ℕ, zero, suc, _+_, _*_, _≤_, _<_}
+use Prim.Native.Nat.{ℕ, zero, suc, _+_, _-_, _*_, _≤_, _<_}
 use native.Mathlib.Nat.{mul-le-mul-left}
 use native.Mathlib.Omega.{arith}
-use mathlib.Core.Bool.{true}
+use mathlib.Core.Bool.{Bool, true, false, cond}
 use mathlib.Core.List.{List, [], _∷_, _++_, map}
 use mathlib.Core.Path.{_≡_, refl, sym, ap, _∙_}
-use lib.Dec.{leb}
+use lib.Dec.{leb, ltb, eqb}
 use lib.ListN.{length, length-map, length-append}
 use Rattle.std.proofs.shelf.Elements.{all-append, all-map}
-use Rattle.std.proofs.shelf.Tests.{le-leb, leb-true}
+use Rattle.std.proofs.shelf.Tests.{le-leb, leb-true, ltb-true, ltb-false, ne-eqb}
+use Rattle.std.specs.declared.option.Option.{Option}
 use Rattle.std.specs.declared.option.Option.the-variants.{Some, None}
 use Rattle.std.specs.declared.result.Result.the-variants.{Ok}
 use Rattle.std.specs.Options.{mapped}
@@ -16,8 +17,10 @@ use Rattle.std.specs.shelf.Lists.{All}
 use Rattle.std.specs.shelf.Maps.{nth}
 use Rattle.face.specs.Bounds.{LARGEST, Bounded}
 use Rattle.face.specs.declared.looks.Look.{Look}
-use Rattle.face.specs.Meaning.{Meaning, unknown, faulty, construction, looked, variantAt, partAt}
-use Rattle.layers.specs.Answers.{lengthsOf}
+use Rattle.face.specs.declared.parts.Part.{Part}
+use Rattle.face.specs.declared.variants.Variant.{Variant}
+use Rattle.face.specs.Meaning.{Meaning, unknown, faulty, construction, Construction, summary, looked, variantAt, partAt}
+use Rattle.layers.specs.Answers.{lengthsOf, lengthAt}
 use Rattle.layers.specs.Scaling.{lengths, firstTooLong}
 
 pub nth-map : {X Y : Type 0} (f : X → Y) (xs : List X) (i : ℕ) → nth (map f xs) i ≡ mapped f (nth xs i)
@@ -36,26 +39,36 @@ nth-back [] ys i = let is : 0 + i ≡ i = omega arith in rw is
 nth-back (x ∷ xs) ys i = let is : length (x ∷ xs) + i ≡ suc (length xs + i) = omega arith in rw is (nth-back xs ys i)
 
 -- a variant's place is one more than its index, a part's comes after those of all variants
-pub length-of-variant : (m : Meaning) (below : Look) → looked m ≡ Ok (Some below) → (place i : ℕ) → place ≡ suc i → i < below .variants → nth (lengthsOf m) place ≡ mapped (λ v. v .advance) (variantAt m i)
-length-of-variant unknown below known place i at less = let z : _≡_ {A = ℕ} 0 1 = cc in absurd (omega arith)
-length-of-variant (faulty f) below known place i at less = let z : _≡_ {A = ℕ} 0 1 = cc in absurd (omega arith)
-length-of-variant (construction c) below known place i at less =
-    let vs = map (λ v. v .advance) (c .variants) in
-    let is : length (c .variants) ≡ below .variants = cc in
-    ap (nth (lengthsOf (construction c))) at
-    ∙ nth-front vs _ i (omega (arith, length-map (c .variants) (λ v. v .advance)))
-    ∙ nth-map (λ v. v .advance) (c .variants) i
+variant-length : (vs : List Variant) (ys : List ℕ) (i : ℕ) → i < length vs → nth (map (λ v. v .advance) vs ++ ys) i ≡ mapped (λ v. v .advance) (nth vs i)
+variant-length vs ys i less = nth-front (map (λ v. v .advance) vs) ys i (omega (arith, length-map vs (λ v. v .advance))) ∙ nth-map (λ v. v .advance) vs i
 
-pub length-of-part : (m : Meaning) (below : Look) → looked m ≡ Ok (Some below) → (place i : ℕ) → place ≡ suc (below .variants + i) → nth (lengthsOf m) place ≡ mapped (λ p. p .full) (partAt m i)
-length-of-part unknown below known place i at = let z : _≡_ {A = ℕ} 0 1 = cc in absurd (omega arith)
-length-of-part (faulty f) below known place i at = let z : _≡_ {A = ℕ} 0 1 = cc in absurd (omega arith)
-length-of-part (construction c) below known place i at =
-    let vs = map (λ v. v .advance) (c .variants) in
-    let is : length (c .variants) ≡ below .variants = cc in
-    let from : place ≡ suc (length vs + i) = omega (arith, length-map (c .variants) (λ v. v .advance)) in
-    ap (nth (lengthsOf (construction c))) from
-    ∙ nth-back vs _ i
-    ∙ nth-map (λ p. p .full) (c .parts) i
+part-length : (vs : List Variant) (ps : List Part) (i : ℕ) → length vs ≤ i → nth (map (λ v. v .advance) vs ++ map (λ p. p .full) ps) i ≡ mapped (λ p. p .full) (nth ps (i - length vs))
+part-length vs ps i past =
+    let advances = map (λ v. v .advance) vs in
+    let after : i ≡ length advances + (i - length vs) = omega (arith, length-map vs (λ v. v .advance)) in
+    ap (nth (advances ++ map (λ p. p .full) ps)) after ∙ nth-back advances _ (i - length vs) ∙ nth-map (λ p. p .full) ps (i - length vs)
+
+module _ (c : Construction) (variant : ℕ → Option Variant) (part : ℕ → Option Part) (variants : (i : ℕ) → nth (c .variants) i ≡ variant i) (parts : (i : ℕ) → nth (c .parts) i ≡ part i) where
+  entry-length : (i : ℕ) (b : Bool) → ltb i (length (c .variants)) ≡ b
+      → nth (map (λ v. v .advance) (c .variants) ++ map (λ p. p .full) (c .parts)) i ≡ cond b (mapped (λ v. v .advance) (variant i)) (mapped (λ p. p .full) (part (i - length (c .variants))))
+  entry-length i true t = variant-length (c .variants) _ i (ltb-true i _ t) ∙ ap (mapped (λ v. v .advance)) (variants i)
+  entry-length i false t = part-length (c .variants) (c .parts) i (ltb-false i _ t) ∙ ap (mapped (λ p. p .full)) (parts (i - length (c .variants)))
+
+  length-here : (place : ℕ) → nth (lengths c) place ≡ lengthAt (summary c) variant part place
+  length-here zero = refl
+  length-here (suc i) =
+      let after : suc i - 1 ≡ i = omega arith in
+      let some : eqb (suc i) 0 ≡ false = ne-eqb (suc i) 0 (λ e. omega arith) in
+      rw (some, after) (entry-length i (ltb i (length (c .variants))) refl)
+
+-- the lengths of a key are those of the entries that are told
+pub length-is : (m : Meaning) (below : Look) → looked m ≡ Ok (Some below) → (variant : ℕ → Option Variant) (part : ℕ → Option Part)
+    → ((i : ℕ) → variantAt m i ≡ variant i) → ((i : ℕ) → partAt m i ≡ part i) → (place : ℕ) → nth (lengthsOf m) place ≡ lengthAt below variant part place
+length-is unknown below known variant part variants parts place = let z : _≡_ {A = ℕ} 0 1 = cc in absurd (omega arith)
+length-is (faulty f) below known variant part variants parts place = let z : _≡_ {A = ℕ} 0 1 = cc in absurd (omega arith)
+length-is (construction c) below known variant part variants parts place =
+    let is : summary c ≡ below = cc in
+    length-here c variant part variants parts place ∙ ap (λ look. lengthAt look variant part place) is
 
 pub places : (m : Meaning) (below : Look) → looked m ≡ Ok (Some below) → length (lengthsOf m) ≡ 1 + below .variants + below .parts
 places unknown below known = let z : _≡_ {A = ℕ} 0 1 = cc in absurd (omega arith)

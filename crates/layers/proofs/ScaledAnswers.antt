@@ -22,7 +22,7 @@ use Rattle.face.specs.declared.variants.Variant.{Variant}
 use Rattle.face.specs.Bounds.{LARGEST}
 use Rattle.face.specs.Meaning.{Meaning, unknown, faulty, construction, Construction, summary, looked, variantsOf, partsOf}
 use Rattle.face.proofs.SameParts.{same-part}
-use Rattle.layers.specs.Answers.{times, lookedAt, variantFrom, partFrom, lengthsOf, Entries}
+use Rattle.layers.specs.Answers.{times, verdict, lookedAt, variantFrom, partFrom, lengthsOf, Entries}
 use Rattle.layers.specs.Limits.{fitting}
 use Rattle.layers.specs.Scaling.{scaledVariant, scaledPart, scaledConstruction, lengths, firstTooLong, judged, scaled}
 
@@ -38,7 +38,7 @@ whole k x fits = omega arith
 
 module _ (k : ℕ) (key : Key) where
   looked-judged : (c : Construction) (below : Look) → summary c ≡ below → (place : Option ℕ) → firstTooLong k 0 (lengths c) ≡ place
-      → looked (judged key place (scaledConstruction k c)) ≡ lookedAt k key below place
+      → looked (judged key place (scaledConstruction k c)) ≡ lookedAt k below (verdict key place)
   looked-judged c below is (Some place) e = refl
   looked-judged c below is None e =
       let least = whole k (c .least) (fitting k c e .least) in
@@ -47,7 +47,7 @@ module _ (k : ℕ) (key : Key) where
       rw (← is) (λ i. Ok (Some (record { limit = times k (c .limit); least = least i; variants = variants i; parts = parts i })))
 
   pub looked-at : (m : Meaning) (below : Look) → looked m ≡ Ok (Some below) → (place : Option ℕ) → firstTooLong k 0 (lengthsOf m) ≡ place
-      → looked (scaled k key m) ≡ lookedAt k key below place
+      → looked (scaled k key m) ≡ lookedAt k below (verdict key place)
   looked-at unknown below known place e = let z : _≡_ {A = ℕ} 0 1 = cc in absurd (omega arith)
   looked-at (faulty f) below known place e = let z : _≡_ {A = ℕ} 0 1 = cc in absurd (omega arith)
   looked-at (construction c) below known place e =

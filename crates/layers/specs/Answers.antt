@@ -1,8 +1,9 @@
 -- What the layers' own functions answer on the way. Contracts of the library do not rest on it: those speak of meanings.
-use Prim.Native.Nat.{ℕ, min, _*_}
+use Prim.Native.Nat.{ℕ, min, _-_, _*_}
 use mathlib.Core.Bool.{Bool, cond}
 use mathlib.Core.List.{List, []}
 use mathlib.Core.Path.{_≡_}
+use lib.Dec.{eqb, ltb}
 use Rattle.std.specs.Options.{mapped}
 use Rattle.std.specs.declared.option.Option.{Option}
 use Rattle.std.specs.declared.option.Option.the-variants.{Some, None}
@@ -28,11 +29,16 @@ raisedAnswer (Err f) = Err (passedUp f)
 abbrev pub times : ℕ → ℕ → ℕ
 times k length = min (k * length) LARGEST
 
--- what a scale answers to look, by what the face below answered and by the first place that is too long
-abbrev pub lookedAt : ℕ → Key → Look → Option ℕ → Result (Option Look) Fault
-lookedAt k key below None =
+-- what judging the lengths comes to, by the first place that is too long
+abbrev pub verdict : Key → Option ℕ → Result (Unit {0}) Fault
+verdict key None = Ok tt
+verdict key (Some place) = Err (tooLongAt key place)
+
+-- what a scale answers to look, by what the face below answered and by the verdict on its lengths
+abbrev pub lookedAt : ℕ → Look → Result (Unit {0}) Fault → Result (Option Look) Fault
+lookedAt k below (Ok _) =
     Ok (Some (record { limit = times k (below .limit); least = times k (below .least); variants = below .variants; parts = below .parts }))
-lookedAt k key below (Some place) = Err (tooLongAt key place)
+lookedAt k below (Err f) = Err f
 
 -- the variant that a scale makes of one below
 abbrev pub variantFrom : ℕ → Variant → Variant
@@ -51,6 +57,13 @@ abbrev pub lengthsOf : Meaning → List ℕ
 lengthsOf unknown = []
 lengthsOf (faulty f) = []
 lengthsOf (construction c) = lengths c
+
+-- the length at a place, by the entries that are told
+abbrev pub lengthAt : Look → (ℕ → Option Variant) → (ℕ → Option Part) → ℕ → Option ℕ
+lengthAt below variant part place =
+    cond (eqb place 0) (Some (below .least)) (
+    cond (ltb (place - 1) (below .variants)) (mapped (λ v. v .advance) (variant (place - 1)))
+    (mapped (λ p. p .full) (part (place - 1 - below .variants))))
 
 -- the entries of a scaled key: those below with their lengths multiplied if all fit, else none
 pub record Entries (k : ℕ) (m above : Meaning) (all-fit : Bool) : Type 0 where

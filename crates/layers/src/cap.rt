@@ -33,7 +33,13 @@ impl<F: Face> Cap<F> {
 }
 
 pub impl<F: Face> Face for Cap<F> as CapFace {
+    type Found = F::Found;
+
     ghost meaning = { λ s key. capped (s .most) (F·Face .meaning (s .face) key) };
+
+    ghost variants = { λ s found. F·Face .variants (s .face) found };
+
+    ghost parts = { λ s found. F·Face .parts (s .face) found };
 
     ghost reach = { λ s. F·Face .reach (s .face) };
 
@@ -51,12 +57,16 @@ pub impl<F: Face> Face for Cap<F> as CapFace {
         }))
     }
 
-    fn variant(&self, key: Key, index: u16) -> Option<Variant> {
-        self.face.variant(key, index)
+    fn find(&self, key: Key) -> Option<F::Found> {
+        self.face.find(key)
     }
 
-    fn part(&self, key: Key, index: u16) -> Option<Part> {
-        self.face.part(key, index)
+    fn variant_of(&self, found: F::Found, index: u16) -> Option<Variant> {
+        self.face.variant_of(found, index)
+    }
+
+    fn part_of(&self, found: F::Found, index: u16) -> Option<Part> {
+        self.face.part_of(found, index)
     }
 
     fn longest(&self) -> u32 {

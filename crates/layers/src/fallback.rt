@@ -1,5 +1,6 @@
 ghost use Prim.Native.Nat.{max};
 ghost use Rattle.layers.specs.Layers.{fallenBack};
+ghost use Rattle.layers.specs.declared.fallback.FoundIn.the-variants.{First, Second};
 ghost use Rattle.layers.specs.Limits.{longer-largest, bounded-fallen-back};
 use crate::passing::passed_up;
 use face::Face;
@@ -16,8 +17,21 @@ pub struct Fallback<A, B> {
     pub second: B,
 }
 
+// Which face knows a key, and what it found there.
+#[derive(Clone, Copy)]
+pub enum FoundIn<A, B> {
+    First(A),
+    Second(B),
+}
+
 pub impl<A: Face, B: Face> Face for Fallback<A, B> as FallbackFace {
+    type Found = FoundIn<A::Found, B::Found>;
+
     ghost meaning = { λ s key. fallenBack (A·Face .meaning (s .first) key) (B·Face .meaning (s .second) key) };
+
+    ghost variants = { λ s found. elim found [ First at ↦ A·Face .variants (s .first) at | Second at ↦ B·Face .variants (s .second) at ] };
+
+    ghost parts = { λ s found. elim found [ First at ↦ A·Face .parts (s .first) at | Second at ↦ B·Face .parts (s .second) at ] };
 
     ghost reach = { λ s. max (A·Face .reach (s .first)) (B·Face .reach (s .second)) };
 
@@ -33,17 +47,24 @@ pub impl<A: Face, B: Face> Face for Fallback<A, B> as FallbackFace {
         }
     }
 
-    fn variant(&self, key: Key, index: u16) -> Option<Variant> {
+    fn find(&self, key: Key) -> Option<FoundIn<A::Found, B::Found>> {
         match self.first.look(key) {
-            Ok(None) => self.second.variant(key, index),
-            _ => self.first.variant(key, index),
+            Ok(None) => Some(FoundIn::Second(self.second.find(key)?)),
+            _ => Some(FoundIn::First(self.first.find(key)?)),
         }
     }
 
-    fn part(&self, key: Key, index: u16) -> Option<Part> {
-        match self.first.look(key) {
-            Ok(None) => self.second.part(key, index),
-            _ => self.first.part(key, index),
+    fn variant_of(&self, found: FoundIn<A::Found, B::Found>, index: u16) -> Option<Variant> {
+        match found {
+            FoundIn::First(found) => self.first.variant_of(found, index),
+            FoundIn::Second(found) => self.second.variant_of(found, index),
+        }
+    }
+
+    fn part_of(&self, found: FoundIn<A::Found, B::Found>, index: u16) -> Option<Part> {
+        match found {
+            FoundIn::First(found) => self.first.part_of(found, index),
+            FoundIn::Second(found) => self.second.part_of(found, index),
         }
     }
 

@@ -3,9 +3,9 @@ ghost use mathlib.Core.Path.{_≡_};
 ghost use Rattle.std.specs.Options.{mapped};
 ghost use Rattle.std.specs.declared.option.Option.the-variants.{Some};
 ghost use Rattle.std.specs.declared.result.Result.the-variants.{Ok};
-ghost use Rattle.std.specs.shelf.Maps.{nth};
+ghost use Rattle.face.specs.Finding.{told};
 ghost use Rattle.face.specs.Meaning.{looked};
-ghost use Rattle.layers.specs.Answers.{times as product, lookedAt, PartFrom, partFrom, lengthsOf, Entries};
+ghost use Rattle.layers.specs.Answers.{times as product, lookedAt, variantFrom, PartFrom, partFrom, lengthsOf, lengthAt, verdict, Entries};
 ghost use Rattle.layers.specs.Limits.{times-largest, bounded-scaled};
 ghost use Rattle.layers.specs.Scaling.{firstTooLong, scaled, tooLongAt};
 use crate::lengths::fits;
@@ -77,10 +77,9 @@ impl<F: Face> Scale<F> {
     }
 
     // The length at a place: the least overlap, then the variants' advances, then the parts' full advances.
-    fn length_at(&self, key: Key, below: Look, place: u32) -> Option<u32>
-        requires known { ⌜ looked (F·Face .meaning (now self .face) key) ≡ Ok (Some below) ⌝ }
-        requires inside { ⌜ place ≤ below .variants + below .parts ⌝ }
-        ensures { λ r. ⌜ r ≡ nth (lengthsOf (F·Face .meaning (now (self .entry) .face) key)) place ⌝ }
+    fn length_at(&self, below: Look, found: Option<F::Found>, place: u32) -> Option<u32>
+        requires { ⌜ place ≤ below .variants + below .parts ⌝ }
+        ensures { λ r. ⌜ r ≡ lengthAt below (λ i. told (F·Face .variants (now (self .entry) .face)) i found) (λ i. told (F·Face .parts (now (self .entry) .face)) i found) place ⌝ }
     {
         if place == 0 {
             return Some(below.least);
@@ -88,36 +87,37 @@ impl<F: Face> Scale<F> {
         let index = place - 1;
         let variants = u32::from(below.variants);
         if index < variants {
-            Some(self.face.variant(key, index as u16)?.advance)
+            Some(self.face.variant_of(found?, index as u16)?.advance)
         } else {
-            Some(self.face.part(key, (index - variants) as u16)?.full)
+            Some(self.face.part_of(found?, (index - variants) as u16)?.full)
         }
     }
 
-    // The first place whose length is too long when scaled: every length is asked for in turn.
-    fn search(&self, key: Key, below: Look) -> Option<u32>
+    // The first length that is too long when scaled is a fault: every length is asked for in turn.
+    fn judge_each(&self, key: Key, below: Look) -> Result<(), Fault>
         requires { ⌜ looked (F·Face .meaning (now self .face) key) ≡ Ok (Some below) ⌝ }
-        ensures { λ r. ⌜ r ≡ firstTooLong (now (self .entry) .by) 0 (lengthsOf (F·Face .meaning (now (self .entry) .face) key)) ⌝ }
+        ensures { λ r. ⌜ r ≡ verdict key (firstTooLong (now (self .entry) .by) 0 (lengthsOf (F·Face .meaning (now (self .entry) .face) key))) ⌝ }
     {
+        let found = self.face.find(key);
         for place in 0..1 + u32::from(below.variants) + u32::from(below.parts) {
-            if let Some(length) = self.length_at(key, below, place)
+            if let Some(length) = self.length_at(below, found, place)
                 && !fits(self.by, length)
             {
-                return Some(place);
+                return Err(too_long(key, place));
             }
         }
-        None
+        Ok(())
     }
 
-    // The first place whose length is too long when scaled. Where the longest of all fits, none is asked for.
-    fn first_too_long(&self, key: Key, below: Look) -> Option<u32>
+    // The first length that is too long when scaled is a fault. Where the longest of all fits, none is asked for.
+    fn judge(&self, key: Key, below: Look) -> Result<(), Fault>
         requires { ⌜ looked (F·Face .meaning (now self .face) key) ≡ Ok (Some below) ⌝ }
-        ensures { λ r. ⌜ looked (scaled (now (self .entry) .by) key (F·Face .meaning (now (self .entry) .face) key)) ≡ lookedAt (now (self .entry) .by) key below r ⌝ }
+        ensures { λ r. ⌜ looked (scaled (now (self .entry) .by) key (F·Face .meaning (now (self .entry) .face) key)) ≡ lookedAt (now (self .entry) .by) below r ⌝ }
     {
         if fits(self.by, self.face.longest()) {
-            None
+            Ok(())
         } else {
-            self.search(key, below)
+            self.judge_each(key, below)
         }
     }
 
@@ -130,7 +130,13 @@ impl<F: Face> Scale<F> {
 }
 
 pub impl<F: Face> Face for Scale<F> as ScaleFace {
+    type Found = F::Found;
+
     ghost meaning = { λ s key. scaled (s .by) key (F·Face .meaning (s .face) key) };
+
+    ghost variants = { λ s found i. mapped (variantFrom (s .by)) (F·Face .variants (s .face) found i) };
+
+    ghost parts = { λ s found i. mapped (partFrom (s .by)) (F·Face .parts (s .face) found i) };
 
     ghost reach = { λ s. product (s .by) (F·Face .reach (s .face)) };
 
@@ -142,9 +148,7 @@ pub impl<F: Face> Face for Scale<F> as ScaleFace {
         let Some(below) = passed_up(self.face.look(key))? else {
             return Ok(None);
         };
-        if let Some(place) = self.first_too_long(key, below) {
-            return Err(too_long(key, place));
-        }
+        self.judge(key, below)?;
         Ok(Some(Look {
             limit: times(self.by, below.limit),
             least: times(self.by, below.least),
@@ -152,22 +156,24 @@ pub impl<F: Face> Face for Scale<F> as ScaleFace {
         }))
     }
 
-    fn variant(&self, key: Key, index: u16) -> Option<Variant> {
-        if !self.scales(key) {
-            return None;
+    fn find(&self, key: Key) -> Option<F::Found> {
+        if self.scales(key) {
+            self.face.find(key)
+        } else {
+            None
         }
-        let below = self.face.variant(key, index)?;
+    }
+
+    fn variant_of(&self, found: F::Found, index: u16) -> Option<Variant> {
+        let below = self.face.variant_of(found, index)?;
         Some(Variant {
             advance: times(self.by, below.advance),
             ..below
         })
     }
 
-    fn part(&self, key: Key, index: u16) -> Option<Part> {
-        if !self.scales(key) {
-            return None;
-        }
-        scaled_part(self.by, self.face.part(key, index))
+    fn part_of(&self, found: F::Found, index: u16) -> Option<Part> {
+        scaled_part(self.by, self.face.part_of(found, index))
     }
 
     fn longest(&self) -> u32 {

@@ -16,6 +16,7 @@ use Rattle.face.specs.declared.looks.Look.{Look}
 use Rattle.face.specs.declared.parts.Part.{Part}
 use Rattle.face.specs.declared.variants.Variant.{Variant}
 use Rattle.face.specs.Bounds.{LARGEST}
+use Rattle.math_table.specs.declared.found.Found.{Found}
 use Rattle.math_table.specs.declared.locating.Located.{Located}
 use Rattle.math_table.specs.declared.shapes.Run.{Run}
 use Rattle.math_table.specs.declared.shapes.Shape.{Shape}
@@ -74,3 +75,10 @@ module _ (m : MathTable) (key : Key) where
   shapePart (Err f) i = None
   shapePart (Ok None) i = None
   shapePart (Ok (Some s)) i = entryOf (partEntry (now (m .table)) (m .face) key) 10 (s .parts) i
+
+-- the entries that stand where a construction was found
+abbrev pub foundVariant : MathTable → Found → ℕ → Option Variant
+foundVariant m found i = entryOf (variantEntry (now (m .table)) (m .face) (found .key)) 4 (found .variants) i
+
+abbrev pub foundPart : MathTable → Found → ℕ → Option Part
+foundPart m found i = entryOf (partEntry (now (m .table)) (m .face) (found .key)) 10 (found .parts) i

@@ -7,9 +7,10 @@ ghost use Rattle.face.specs.Meaning.{looked, variantAt, partAt};
 ghost use Rattle.math_table.specs.Limits.{word-largest, bounded-math};
 ghost use Rattle.math_table.specs.Making.{wellFormed, Making, meant};
 ghost use Rattle.math_table.specs.Reading.{LARGEST-WORD};
-ghost use Rattle.math_table.specs.Shapes.{shapeLook, shapeVariant, shapePart};
+ghost use Rattle.math_table.specs.Shapes.{shapeLook, shapeVariant, shapePart, foundVariant, foundPart};
 use crate::entries::part_at;
 use crate::entries::variant_at;
+use crate::found::Found;
 use crate::shapes::Shape;
 use crate::shapes::shape_of;
 use face::Face;
@@ -72,7 +73,13 @@ impl<'a> MathTable<'a> {
 }
 
 pub impl<'a> Face for MathTable<'a> as MathTableFace {
+    type Found = Found;
+
     ghost meaning = { meant };
+
+    ghost variants = { foundVariant };
+
+    ghost parts = { foundPart };
 
     ghost reach = { λ s. LARGEST-WORD };
 
@@ -92,23 +99,37 @@ pub impl<'a> Face for MathTable<'a> as MathTableFace {
         }))
     }
 
-    fn variant(&self, key: Key, index: u16) -> Option<Variant> {
-        let run = self.shape(key).ok()??.variants;
+    fn find(&self, key: Key) -> Option<Found> {
+        let shape = self.shape(key).ok()??;
+        Some(Found {
+            key,
+            variants: shape.variants,
+            parts: shape.parts,
+        })
+    }
+
+    fn variant_of(&self, found: Found, index: u16) -> Option<Variant> {
+        let run = found.variants;
         if index >= run.count {
             return None;
         }
-        variant_at(self.table, self.face, key, run.first + 4 * u32::from(index)).ok()
+        variant_at(
+            self.table,
+            self.face,
+            found.key,
+            run.first + 4 * u32::from(index),
+        ).ok()
     }
 
-    fn part(&self, key: Key, index: u16) -> Option<Part> {
-        let run = self.shape(key).ok()??.parts;
+    fn part_of(&self, found: Found, index: u16) -> Option<Part> {
+        let run = found.parts;
         if index >= run.count {
             return None;
         }
         part_at(
             self.table,
             self.face,
-            key,
+            found.key,
             run.first + 10 * u32::from(index),
         ).ok()
     }

@@ -24,11 +24,11 @@ fn axis_word(axis: Axis) -> &'static str
 fn print_variants<W: Write, F: Face>(
     out: &mut W,
     face: &F,
-    key: Key,
+    found: F::Found,
     count: u16,
 ) -> io::Result<()> {
     for index in 0..count {
-        if let Some(variant) = face.variant(key, index) {
+        if let Some(variant) = face.variant_of(found, index) {
             writeln!(
                 out,
                 "  variant {index}: face {} glyph {} advance {}",
@@ -39,9 +39,14 @@ fn print_variants<W: Write, F: Face>(
     Ok(())
 }
 
-fn print_parts<W: Write, F: Face>(out: &mut W, face: &F, key: Key, count: u16) -> io::Result<()> {
+fn print_parts<W: Write, F: Face>(
+    out: &mut W,
+    face: &F,
+    found: F::Found,
+    count: u16,
+) -> io::Result<()> {
     for index in 0..count {
-        if let Some(part) = face.part(key, index) {
+        if let Some(part) = face.part_of(found, index) {
             let extender = if part.extender { " extender" } else { "" };
             writeln!(
                 out,
@@ -70,8 +75,11 @@ fn print_construction<W: Write, F: Face>(
     writeln!(out, "construction")?;
     writeln!(out, "  limit {}", look.limit)?;
     writeln!(out, "  least overlap {}", look.least)?;
-    print_variants(out, face, key, look.variants)?;
-    print_parts(out, face, key, look.parts)
+    if let Some(found) = face.find(key) {
+        print_variants(out, face, found, look.variants)?;
+        print_parts(out, face, found, look.parts)?;
+    }
+    Ok(())
 }
 
 // What a face says of a key.

@@ -2,7 +2,7 @@ use mathlib.Core.Path.{_≡_}
 use lib.ListN.{drop}
 use Rattle.layers.specs.Answers.{lengthsOf}
 use Rattle.layers.specs.Scaling.{firstTooLong}
-use Rattle.layers.proofs.scale.Scale.search.Given as given
+use Rattle.layers.proofs.scale.Scale.judge_each.Given as given
 
 -- what is left of the lengths gives the answer
 abbrev pub Inv-loop-place : given.InvT-loop-place
