@@ -1,4 +1,5 @@
--- What the layers' own functions answer on the way. Contracts of the library do not rest on it: those speak of meanings.
+-- What the layers' functions answer on the way.
+-- Nothing here has to be believed, since every answer about a key is equated with its meaning.
 use Prim.Native.Nat.{ℕ, min, _-_, _*_}
 use mathlib.Core.Bool.{Bool, cond}
 use mathlib.Core.List.{List, []}

@@ -2,7 +2,6 @@
 pub mod cap;
 pub mod fallback;
 pub mod laws;
-mod lengths;
 mod passing;
 pub mod scale;
 

@@ -6,14 +6,14 @@ ghost use Rattle.layers.specs.Answers.{times as product};
 use face::LARGEST;
 
 // Is a length times the factor at most the largest length?
-pub(crate) fn fits(by: u32, length: u32) -> bool
+pub(super) fn fits(by: u32, length: u32) -> bool
     ensures { λ r. ⌜ r ≡ leb (by * length) Largest ⌝ }
 {
     by.saturating_mul(length) <= LARGEST
 }
 
 // A length times the factor, and the largest length where that is longer.
-pub(crate) fn times(by: u32, length: u32) -> u32
+pub(super) fn times(by: u32, length: u32) -> u32
     ensures { λ r. ⌜ r ≡ product by length ⌝ }
 {
     by.saturating_mul(length).min(LARGEST)
