@@ -47,10 +47,12 @@ sample = bytes (header ++ (mathVariants ++ (coverage ++ (glyphConstruction ++ gl
 abbrev pub withFormat : ℕ → List ℕ
 withFormat format = set (set sample 22 (format / 256)) 23 (format % 256)
 
+-- the key of a glyph that is to grow upward
 abbrev pub upright : ℕ → Key
 upright glyph = record { glyph = glyph; axis = Upright }
 
-abbrev variant : ℕ → ℕ → Variant
+-- a variant of face 0
+abbrev pub variant : ℕ → ℕ → Variant
 variant glyph advance = record { face = 0; glyph = glyph; advance = advance }
 
 -- what the sample offers for glyph 40 upright

@@ -1,4 +1,5 @@
 // Worked examples: as theorems on the definitions, and as tests that run.
+pub mod layered;
 pub mod sample;
 #[cfg(test)]
 mod tests;

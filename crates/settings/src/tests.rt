@@ -1,4 +1,9 @@
 mod changed;
 mod cut;
 mod described;
+mod even;
 mod level;
+mod limits;
+mod piled;
+mod scaled;
+mod words;

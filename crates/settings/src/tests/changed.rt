@@ -1,5 +1,6 @@
 use crate::sample::sample;
-use crate::tests::described::described;
+use crate::tests::described::described_table;
+use crate::tests::words::with_word;
 use face::Axis;
 use std::alloc::Global;
 use std::test::*;
@@ -104,7 +105,7 @@ const ZERO: [(usize, Expected); 27] = [
     (72, Entry(5, "p 52 0 0 0")),
 ];
 
-// The answer that is expected, in the words of `described`.
+// The answer that is expected, in the words of `described_table`.
 fn expected_text(heap: Global, expected: Expected) -> Result<String, Fail> {
     if let Answer(text) = expected {
         return Ok(String::from_str(heap, text)?);
@@ -126,12 +127,8 @@ fn expected_text(heap: Global, expected: Expected) -> Result<String, Fail> {
 
 fn check_changes(heap: Global, word: u16, changes: &[(usize, Expected)]) -> Result<(), Fail> {
     for (place, expected) in changes {
-        let mut table = sample();
-        let [hi, lo] = word.to_be_bytes();
-        check(*place < 75)?;
-        table[*place] = hi;
-        table[*place + 1] = lo;
-        let found = described(heap, &table, 40, Axis::Upright)?;
+        let table = with_word(sample(), *place, word)?;
+        let found = described_table(heap, &table, 40, Axis::Upright)?;
         let text = expected_text(heap, *expected)?;
         check_eq(found.as_str(), text.as_str())?;
     }

@@ -1,5 +1,5 @@
 use crate::sample::sample;
-use crate::tests::described::described;
+use crate::tests::described::described_table;
 use face::Axis;
 use std::test::*;
 
@@ -17,7 +17,7 @@ fn first_outside(length: usize) -> usize {
 fn truncations(rt: LibcRuntime) -> Result<(), Fail> {
     let table = sample();
     for length in 0..76 {
-        let found = described(rt.alloc(), &table[0..length], 40, Axis::Upright)?;
+        let found = described_table(rt.alloc(), &table[0..length], 40, Axis::Upright)?;
         let text = match length {
             0 => String::from_str(rt.alloc(), "unknown")?,
             1..=9 => String::from_str(rt.alloc(), "refused 14")?,

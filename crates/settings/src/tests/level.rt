@@ -1,4 +1,4 @@
-use crate::tests::described::described;
+use crate::tests::described::described_table;
 use face::Axis;
 use std::test::*;
 
@@ -32,9 +32,9 @@ fn ranges_and_level_offsets(rt: LibcRuntime) -> Result<(), Fail> {
     ];
     for (length, glyph, text) in expected {
         let table = TABLE.get(0..length).ok_or("too long a cut")?;
-        let found = described(rt.alloc(), table, glyph, Axis::Level)?;
+        let found = described_table(rt.alloc(), table, glyph, Axis::Level)?;
         check_eq(found.as_str(), text)?;
     }
-    let upright = described(rt.alloc(), TABLE, 40, Axis::Upright)?;
+    let upright = described_table(rt.alloc(), TABLE, 40, Axis::Upright)?;
     check_eq(upright.as_str(), "unknown")
 }
