@@ -16,13 +16,13 @@ use crate::variants::Variant;
 
 // What a font offers for stretching signs. Questions change nothing, and repeated they answer alike.
 pub trait Face {
-    // What a construction was found by: its entries are told by it, and it is not searched again.
+    // What was found for a key: its entries are told by it, and the key is not searched for again.
     type Found: Copy;
 
     // Each key is unknown, has a fault, or has a construction.
     ghost meaning: { Self → TheKey → Meaning };
 
-    // The entries that stand where a construction was found.
+    // The entries that are told by it, at each index.
     ghost variants: { Self → Self·Found → ℕ → Maybe TheVariant };
 
     ghost parts: { Self → Self·Found → ℕ → Maybe ThePart };
@@ -39,16 +39,6 @@ pub trait Face {
     fn look(&self, key: Key) -> Result<Option<Look>, Fault>
         ensures { λ r. ⌜ r ≡ looked (meaning (now (self .entry)) key) ⌝ };
 
-    fn find(&self, key: Key) -> Option<Self::Found>
-        ensures variants { λ r. ⌜ ((i : ℕ) → variantAt (meaning (now (self .entry)) key) i ≡ told (variants (now (self .entry))) i r) ⌝ }
-        ensures parts { λ r. ⌜ ((i : ℕ) → partAt (meaning (now (self .entry)) key) i ≡ told (parts (now (self .entry))) i r) ⌝ };
-
-    fn variant_of(&self, found: Self::Found, index: u16) -> Option<Variant>
-        ensures { λ r. ⌜ r ≡ variants (now (self .entry)) found index ⌝ };
-
-    fn part_of(&self, found: Self::Found, index: u16) -> Option<Part>
-        ensures { λ r. ⌜ r ≡ parts (now (self .entry)) found index ⌝ };
-
     // The variant at an index, counted from 0.
     fn variant(&self, key: Key, index: u16) -> Option<Variant>
         ensures { λ r. ⌜ r ≡ variantAt (meaning (now (self .entry)) key) index ⌝ }
@@ -63,7 +53,20 @@ pub trait Face {
         self.part_of(self.find(key)?, index)
     }
 
-    // A length that no length of any key is above, told at once: no entry is read for it.
+    // What the key's entries are told by; none for a key without a construction.
+    fn find(&self, key: Key) -> Option<Self::Found>
+        ensures variants { λ r. ⌜ ((i : ℕ) → variantAt (meaning (now (self .entry)) key) i ≡ told (variants (now (self .entry))) i r) ⌝ }
+        ensures parts { λ r. ⌜ ((i : ℕ) → partAt (meaning (now (self .entry)) key) i ≡ told (parts (now (self .entry))) i r) ⌝ };
+
+    // The variant at an index of what was found.
+    fn variant_of(&self, found: Self::Found, index: u16) -> Option<Variant>
+        ensures { λ r. ⌜ r ≡ variants (now (self .entry)) found index ⌝ };
+
+    // The part at an index of what was found.
+    fn part_of(&self, found: Self::Found, index: u16) -> Option<Part>
+        ensures { λ r. ⌜ r ≡ parts (now (self .entry)) found index ⌝ };
+
+    // A length that no length of any key is above, told without reading an entry.
     fn longest(&self) -> u32
         ensures { λ r. ⌜ r ≡ reach (now (self .entry)) ⌝ };
 }

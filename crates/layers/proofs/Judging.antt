@@ -1,11 +1,9 @@
 -- Which length of a key is the first that is too long.
 use Prim.Native.Nat.{ℕ, zero, suc, _+_, _*_, _≤_, _<_}
 use native.Mathlib.Omega.{arith}
-use mathlib.Core.Bool.{true, false}
-use mathlib.Core.List.{List, [], _∷_, map}
+use mathlib.Core.List.{List, [], _∷_}
 use mathlib.Core.Path.{_≡_, refl, ap, _∙_}
-use lib.Dec.{leb}
-use lib.ListN.{length, length-map}
+use lib.ListN.{length}
 use Rattle.std.proofs.shelf.Tests.{le-leb, lt-leb}
 use Rattle.std.specs.Options.{mapped}
 use Rattle.std.specs.declared.option.Option.the-variants.{Some, None}
@@ -14,7 +12,8 @@ use Rattle.face.specs.Bounds.{LARGEST}
 use Rattle.face.specs.Meaning.{Construction}
 use Rattle.layers.specs.Laws.{EachLengthHasAPlace, WhatFitsIsScaled, TheFirstLengthTooLongIsTheFault}
 use Rattle.layers.specs.Scaling.{scaledConstruction, lengths, firstTooLong, judged}
-use Rattle.layers.proofs.Places.{nth-map, nth-front, nth-back}
+use Rattle.layers.proofs.Indexes.{none-is-not-some, nth-inside}
+use Rattle.layers.proofs.Places.{variant-length, part-length}
 
 module _ (k : ℕ) where
   all-fit-none : (from : ℕ) (xs : List ℕ) → ((q x : ℕ) → nth xs q ≡ Some x → k * x ≤ LARGEST) → firstTooLong k from xs ≡ None
@@ -24,7 +23,7 @@ module _ (k : ℕ) where
 
   first-is-found : (from place x : ℕ) (xs : List ℕ) → nth xs place ≡ Some x → LARGEST < k * x → ((q y : ℕ) → q < place → nth xs q ≡ Some y → k * y ≤ LARGEST)
       → firstTooLong k from xs ≡ Some (from + place)
-  first-is-found from place x [] at long fit = let z : _≡_ {A = ℕ} 0 1 = cc in absurd (omega arith)
+  first-is-found from place x [] at long fit = absurd (none-is-not-some at)
   first-is-found from zero x (y ∷ ys) at long fit =
       let is : y ≡ x = cc in
       let here : from + zero ≡ from = omega arith in
@@ -43,22 +42,14 @@ the-first-length-too-long-is-the-fault k key c place x at long fit =
     let here : 0 + place ≡ place = omega arith in
     ap (λ o. judged key o (scaledConstruction k c)) (first-is-found k 0 place x (lengths c) at long fit ∙ ap Some here)
 
-nth-length : {X : Type 0} (xs : List X) (i : ℕ) (x : X) → nth xs i ≡ Some x → i < length xs
-nth-length [] i x at = let z : _≡_ {A = ℕ} 0 1 = cc in absurd (omega arith)
-nth-length (y ∷ ys) zero x at = omega arith
-nth-length (y ∷ ys) (suc i) x at = omega (arith, nth-length ys i x at)
-
 pub each-length-has-a-place : (c : Construction) → EachLengthHasAPlace c
 each-length-has-a-place c =
-    let vs = map (λ v. v .advance) (c .variants) in
-    let ps = map (λ p. p .full) (c .parts) in
-    let count = length-map (c .variants) (λ v. v .advance) in
     record {
       least = refl;
       variant = λ i v at.
           let next : 1 + i ≡ suc i = omega arith in
-          ap (nth (lengths c)) next ∙ nth-front vs ps i (omega (arith, nth-length (c .variants) i v at)) ∙ nth-map (λ v. v .advance) (c .variants) i ∙ ap (mapped (λ v. v .advance)) at;
+          ap (nth (lengths c)) next ∙ variant-length (c .variants) _ i (nth-inside (c .variants) i v at) ∙ ap (mapped (λ v. v .advance)) at;
       part = λ i p at.
-          let next : 1 + length (c .variants) + i ≡ suc (length vs + i) = omega arith in
-          ap (nth (lengths c)) next ∙ nth-back vs ps i ∙ nth-map (λ p. p .full) (c .parts) i ∙ ap (mapped (λ p. p .full)) at;
+          let next : 1 + length (c .variants) + i ≡ suc (length (c .variants) + i) = omega arith in
+          ap (nth (lengths c)) next ∙ part-length (c .variants) (c .parts) i ∙ ap (mapped (λ p. p .full)) at;
     }

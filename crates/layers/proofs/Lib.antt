@@ -1,4 +1,5 @@
 pub mod Entries
+pub mod Indexes
 pub mod Judging
 pub mod Places
 pub mod ScaledAnswers

@@ -20,39 +20,30 @@ use Rattle.face.specs.declared.looks.Look.{Look}
 use Rattle.face.specs.declared.parts.Part.{Part}
 use Rattle.face.specs.declared.variants.Variant.{Variant}
 use Rattle.face.specs.Meaning.{Meaning, unknown, faulty, construction, Construction, summary, looked, variantAt, partAt}
+use Rattle.face.proofs.Looking.{look-finds}
 use Rattle.layers.specs.Answers.{lengthsOf, lengthAt}
 use Rattle.layers.specs.Scaling.{lengths, firstTooLong}
+use Rattle.layers.proofs.Indexes.{nth-map, nth-front, nth-back}
 
-pub nth-map : {X Y : Type 0} (f : X → Y) (xs : List X) (i : ℕ) → nth (map f xs) i ≡ mapped f (nth xs i)
-nth-map f [] i = refl
-nth-map f (x ∷ xs) zero = refl
-nth-map f (x ∷ xs) (suc i) = nth-map f xs i
-
--- the entry of two lists, one after the other
-pub nth-front : {X : Type 0} (xs ys : List X) (i : ℕ) → i < length xs → nth (xs ++ ys) i ≡ nth xs i
-nth-front [] ys i less = absurd (omega arith)
-nth-front (x ∷ xs) ys zero less = refl
-nth-front (x ∷ xs) ys (suc i) less = nth-front xs ys i (omega arith)
-
-pub nth-back : {X : Type 0} (xs ys : List X) (i : ℕ) → nth (xs ++ ys) (length xs + i) ≡ nth ys i
-nth-back [] ys i = let is : 0 + i ≡ i = omega arith in rw is
-nth-back (x ∷ xs) ys i = let is : length (x ∷ xs) + i ≡ suc (length xs + i) = omega arith in rw is (nth-back xs ys i)
-
--- a variant's place is one more than its index, a part's comes after those of all variants
-variant-length : (vs : List Variant) (ys : List ℕ) (i : ℕ) → i < length vs → nth (map (λ v. v .advance) vs ++ ys) i ≡ mapped (λ v. v .advance) (nth vs i)
+-- the length of a variant, and of a part, which comes after those of all variants
+pub variant-length : (vs : List Variant) (ys : List ℕ) (i : ℕ) → i < length vs → nth (map (λ v. v .advance) vs ++ ys) i ≡ mapped (λ v. v .advance) (nth vs i)
 variant-length vs ys i less = nth-front (map (λ v. v .advance) vs) ys i (omega (arith, length-map vs (λ v. v .advance))) ∙ nth-map (λ v. v .advance) vs i
 
-part-length : (vs : List Variant) (ps : List Part) (i : ℕ) → length vs ≤ i → nth (map (λ v. v .advance) vs ++ map (λ p. p .full) ps) i ≡ mapped (λ p. p .full) (nth ps (i - length vs))
-part-length vs ps i past =
+pub part-length : (vs : List Variant) (ps : List Part) (i : ℕ) → nth (map (λ v. v .advance) vs ++ map (λ p. p .full) ps) (length vs + i) ≡ mapped (λ p. p .full) (nth ps i)
+part-length vs ps i =
     let advances = map (λ v. v .advance) vs in
-    let after : i ≡ length advances + (i - length vs) = omega (arith, length-map vs (λ v. v .advance)) in
-    ap (nth (advances ++ map (λ p. p .full) ps)) after ∙ nth-back advances _ (i - length vs) ∙ nth-map (λ p. p .full) ps (i - length vs)
+    let fulls = map (λ p. p .full) ps in
+    let as-many : length vs ≡ length advances = sym (length-map vs (λ v. v .advance)) in
+    ap (λ n. nth (advances ++ fulls) (n + i)) as-many ∙ nth-back advances fulls i ∙ nth-map (λ p. p .full) ps i
 
 module _ (c : Construction) (variant : ℕ → Option Variant) (part : ℕ → Option Part) (variants : (i : ℕ) → nth (c .variants) i ≡ variant i) (parts : (i : ℕ) → nth (c .parts) i ≡ part i) where
   entry-length : (i : ℕ) (b : Bool) → ltb i (length (c .variants)) ≡ b
       → nth (map (λ v. v .advance) (c .variants) ++ map (λ p. p .full) (c .parts)) i ≡ cond b (mapped (λ v. v .advance) (variant i)) (mapped (λ p. p .full) (part (i - length (c .variants))))
   entry-length i true t = variant-length (c .variants) _ i (ltb-true i _ t) ∙ ap (mapped (λ v. v .advance)) (variants i)
-  entry-length i false t = part-length (c .variants) (c .parts) i (ltb-false i _ t) ∙ ap (mapped (λ p. p .full)) (parts (i - length (c .variants)))
+  entry-length i false t =
+      let count = length (c .variants) in
+      let after : i ≡ count + (i - count) = omega (arith, ltb-false i count t) in
+      ap (nth (map (λ v. v .advance) (c .variants) ++ map (λ p. p .full) (c .parts))) after ∙ part-length (c .variants) (c .parts) (i - count) ∙ ap (mapped (λ p. p .full)) (parts (i - count))
 
   length-here : (place : ℕ) → nth (lengths c) place ≡ lengthAt (summary c) variant part place
   length-here zero = refl
@@ -64,21 +55,18 @@ module _ (c : Construction) (variant : ℕ → Option Variant) (part : ℕ → O
 -- the lengths of a key are those of the entries that are told
 pub length-is : (m : Meaning) (below : Look) → looked m ≡ Ok (Some below) → (variant : ℕ → Option Variant) (part : ℕ → Option Part)
     → ((i : ℕ) → variantAt m i ≡ variant i) → ((i : ℕ) → partAt m i ≡ part i) → (place : ℕ) → nth (lengthsOf m) place ≡ lengthAt below variant part place
-length-is unknown below known variant part variants parts place = let z : _≡_ {A = ℕ} 0 1 = cc in absurd (omega arith)
-length-is (faulty f) below known variant part variants parts place = let z : _≡_ {A = ℕ} 0 1 = cc in absurd (omega arith)
-length-is (construction c) below known variant part variants parts place =
-    let is : summary c ≡ below = cc in
-    length-here c variant part variants parts place ∙ ap (λ look. lengthAt look variant part place) is
+length-is m below known variant part =
+    look-finds (λ m. ((i : ℕ) → variantAt m i ≡ variant i) → ((i : ℕ) → partAt m i ≡ part i) → (place : ℕ) → nth (lengthsOf m) place ≡ lengthAt below variant part place) m below known
+    (λ c is variants parts place. length-here c variant part variants parts place ∙ ap (λ look. lengthAt look variant part place) is)
 
 pub places : (m : Meaning) (below : Look) → looked m ≡ Ok (Some below) → length (lengthsOf m) ≡ 1 + below .variants + below .parts
-places unknown below known = let z : _≡_ {A = ℕ} 0 1 = cc in absurd (omega arith)
-places (faulty f) below known = let z : _≡_ {A = ℕ} 0 1 = cc in absurd (omega arith)
-places (construction c) below known =
-    let vs = map (λ v. v .advance) (c .variants) in
-    let ps = map (λ p. p .full) (c .parts) in
-    let variants : length (c .variants) ≡ below .variants = cc in
-    let parts : length (c .parts) ≡ below .parts = cc in
-    omega (arith, length-append vs ps, length-map (c .variants) (λ v. v .advance), length-map (c .parts) (λ p. p .full))
+places m below known =
+    look-finds (λ m. length (lengthsOf m) ≡ 1 + below .variants + below .parts) m below known (λ c is.
+    let advances = map (λ v. v .advance) (c .variants) in
+    let fulls = map (λ p. p .full) (c .parts) in
+    let variants : length (c .variants) ≡ below .variants = ap (λ look. look .variants) is in
+    let parts : length (c .parts) ≡ below .parts = ap (λ look. look .parts) is in
+    omega (arith, length-append advances fulls, length-map (c .variants) (λ v. v .advance), length-map (c .parts) (λ p. p .full)))
 
 -- where no length of a key is above n, and n fits, each fits
 all-below : (k n : ℕ) → k * n ≤ LARGEST → (place : ℕ) (xs : List ℕ) → All (λ x. x ≤ n) xs → firstTooLong k place xs ≡ None

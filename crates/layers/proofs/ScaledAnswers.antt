@@ -21,6 +21,7 @@ use Rattle.face.specs.declared.parts.Part.{Part}
 use Rattle.face.specs.declared.variants.Variant.{Variant}
 use Rattle.face.specs.Bounds.{LARGEST}
 use Rattle.face.specs.Meaning.{Meaning, unknown, faulty, construction, Construction, summary, looked, variantsOf, partsOf}
+use Rattle.face.proofs.Looking.{look-finds}
 use Rattle.face.proofs.SameParts.{same-part}
 use Rattle.layers.specs.Answers.{times, verdict, lookedAt, variantFrom, partFrom, lengthsOf, Entries}
 use Rattle.layers.specs.Limits.{fitting}
@@ -48,11 +49,9 @@ module _ (k : ℕ) (key : Key) where
 
   pub looked-at : (m : Meaning) (below : Look) → looked m ≡ Ok (Some below) → (place : Option ℕ) → firstTooLong k 0 (lengthsOf m) ≡ place
       → looked (scaled k key m) ≡ lookedAt k below (verdict key place)
-  looked-at unknown below known place e = let z : _≡_ {A = ℕ} 0 1 = cc in absurd (omega arith)
-  looked-at (faulty f) below known place e = let z : _≡_ {A = ℕ} 0 1 = cc in absurd (omega arith)
-  looked-at (construction c) below known place e =
-      let is : summary c ≡ below = cc in
-      ap (λ o. looked (judged key o (scaledConstruction k c))) e ∙ looked-judged c below is place e
+  looked-at m below known place =
+      look-finds (λ m. firstTooLong k 0 (lengthsOf m) ≡ place → looked (scaled k key m) ≡ lookedAt k below (verdict key place)) m below known
+      (λ c is e. ap (λ o. looked (judged key o (scaledConstruction k c))) e ∙ looked-judged c below is place e)
 
   -- lists whose entries come to the same one by one
   same-entries : {X : Type 0} (f g : X → X) (xs : List X) → All (λ x. f x ≡ g x) xs → (i : ℕ) → nth (map f xs) i ≡ mapped g (nth xs i)

@@ -11,16 +11,12 @@ use Rattle.std.specs.declared.option.Option.the-variants.{Some, None}
 use Rattle.std.specs.shelf.Maps.{nth}
 use Rattle.face.specs.Bounds.{LARGEST}
 use Rattle.layers.specs.Scaling.{firstTooLong}
-
-past-end : (xs : List ℕ) (i : ℕ) → nth xs i ≡ None → length xs ≤ i
-past-end [] i e = omega arith
-past-end (x ∷ xs) zero e = let z : _≡_ {A = ℕ} 0 1 = cc in absurd (omega arith)
-past-end (x ∷ xs) (suc i) e = omega (arith, past-end xs i e)
+use Rattle.layers.proofs.Indexes.{none-is-not-some, nth-outside}
 
 module _ (k : ℕ) where
   -- what the search comes to from a place on, by the length there
   here : (xs : List ℕ) (i p x : ℕ) → nth xs i ≡ Some x → firstTooLong k p (drop i xs) ≡ cond (leb (k * x) LARGEST) (firstTooLong k (p + 1) (drop (suc i) xs)) (Some p)
-  here [] i p x e = let z : _≡_ {A = ℕ} 0 1 = cc in absurd (omega arith)
+  here [] i p x e = absurd (none-is-not-some e)
   here (y ∷ ys) zero p x e = let is : y ≡ x = cc in rw is refl
   here (y ∷ ys) (suc i) p x e = here ys i p x e
 
@@ -36,4 +32,4 @@ module _ (k : ℕ) where
   none-left xs i le = at-drop-all (firstTooLong k i) xs i le
 
   pub past-here : (xs : List ℕ) (i : ℕ) → nth xs i ≡ None → firstTooLong k (i + 1) (drop (i + 1) xs) ≡ firstTooLong k i (drop i xs)
-  past-here xs i e = none-left xs (i + 1) (omega (arith, past-end xs i e)) ∙ sym (none-left xs i (past-end xs i e))
+  past-here xs i e = none-left xs (i + 1) (omega (arith, nth-outside xs i e)) ∙ sym (none-left xs i (nth-outside xs i e))

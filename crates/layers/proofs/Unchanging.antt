@@ -7,7 +7,7 @@ use Rattle.std.proofs.shelf.Tests.{le-leb}
 use Rattle.face.specs.declared.keys.Key.{Key}
 use Rattle.face.specs.declared.parts.Part.{Part}
 use Rattle.face.specs.declared.variants.Variant.{Variant}
-use Rattle.face.specs.Bounds.{LARGEST, Within, Bounded}
+use Rattle.face.specs.Bounds.{LARGEST, Bounded}
 use Rattle.face.specs.Meaning.{Meaning, unknown, faulty, construction, Construction}
 use Rattle.face.proofs.SameParts.{same-part}
 use Rattle.layers.specs.Layers.{raised}
