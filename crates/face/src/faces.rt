@@ -53,7 +53,7 @@ pub trait Face {
         self.part_of(self.find(key)?, index)
     }
 
-    // What the key's entries are told by; none for a key without a construction.
+    // What the key's entries are told by, if it has any.
     fn find(&self, key: Key) -> Option<Self::Found>
         ensures variants { λ r. ⌜ ((i : ℕ) → variantAt (meaning (now (self .entry)) key) i ≡ told (variants (now (self .entry))) i r) ⌝ }
         ensures parts { λ r. ⌜ ((i : ℕ) → partAt (meaning (now (self .entry)) key) i ≡ told (parts (now (self .entry))) i r) ⌝ };

@@ -35,7 +35,7 @@ module _ (k : ℕ) where
 
 pub what-fits-is-scaled : WhatFitsIsScaled
 what-fits-is-scaled k key c fit =
-    ap (λ o. judged key o (scaledConstruction k c)) (all-fit-none k 0 (lengths c) (λ q x at. fit (suc q) q x (omega arith) at))
+    ap (λ o. judged key o (scaledConstruction k c)) (all-fit-none k 0 (lengths c) fit)
 
 pub the-first-length-too-long-is-the-fault : TheFirstLengthTooLongIsTheFault
 the-first-length-too-long-is-the-fault k key c place x at long fit =

@@ -35,14 +35,18 @@ pub record EachLengthHasAPlace (c : Construction) : Type 0 where
   pub variant : (i : ℕ) (v : Variant) → nth (c .variants) i ≡ Some v → nth (lengths c) (1 + i) ≡ Some (v .advance)
   pub part : (i : ℕ) (p : Part) → nth (c .parts) i ≡ Some p → nth (lengths c) (1 + length (c .variants) + i) ≡ Some (p .full)
 
--- each length that has a place before this one fits when it is scaled
+-- every length fits when it is scaled
+abbrev pub AllFit : ℕ → Construction → Type 0
+AllFit k c = (place x : ℕ) → nth (lengths c) place ≡ Some x → k * x ≤ LARGEST
+
+-- each length that has a place before this one fits
 abbrev pub FitBefore : ℕ → Construction → ℕ → Type 0
 FitBefore k c place = (q x : ℕ) → q < place → nth (lengths c) q ≡ Some x → k * x ≤ LARGEST
 
--- a key has a construction where every length fits when it is scaled
+-- a scaled key has a construction where every length fits
 abbrev pub WhatFitsIsScaled : Type 0
 WhatFitsIsScaled =
-    (k : ℕ) (key : Key) (c : Construction) → ((place : ℕ) → FitBefore k c place) → scaled k key (construction c) ≡ construction (scaledConstruction k c)
+    (k : ℕ) (key : Key) (c : Construction) → AllFit k c → scaled k key (construction c) ≡ construction (scaledConstruction k c)
 
 -- and else a fault, at the first place whose length does not fit
 abbrev pub TheFirstLengthTooLongIsTheFault : Type 0
