@@ -16,13 +16,13 @@ use crate::variants::Variant;
 
 // What a font offers for stretching signs. Questions change nothing, and repeated they answer alike.
 pub trait Face {
-    // What was found for a key: its entries are told by it, and the key is not searched for again.
-    type Found: Copy;
-
     // Each key is unknown, has a fault, or has a construction.
     ghost meaning: { Self → TheKey → Meaning };
 
-    // The entries that are told by it, at each index.
+    // What was found for a key: its entries are told by it, and the key is not searched for again.
+    type Found: Copy;
+
+    // The entries that are told by what was found, at each index.
     ghost variants: { Self → Self·Found → ℕ → Maybe TheVariant };
 
     ghost parts: { Self → Self·Found → ℕ → Maybe ThePart };
