@@ -1,6 +1,8 @@
-ghost use Prim.Native.Nat.{min};
+ghost use Prim.Native.Nat.{ℕ, min};
 ghost use mathlib.Core.Path.{_≡_};
 ghost use Rattle.face.specs.Bounds.{LARGEST as Largest};
+ghost use Rattle.face.specs.Finding.{told};
+ghost use Rattle.face.specs.Meaning.{variantAt, partAt};
 ghost use Rattle.layers.specs.Layers.{capped};
 ghost use Rattle.layers.specs.Limits.{bounded-capped};
 use crate::passing::passed_up;
@@ -30,6 +32,14 @@ impl<F: Face> Cap<F> {
             most: most.min(LARGEST),
         }
     }
+
+    // A cap changes no entry: they are told by what is found below.
+    fn found_below(&self, key: Key) -> Option<F::Found>
+        ensures variants { λ r. ⌜ ((i : ℕ) → variantAt (capped (now (self .entry) .most) (F·Face .meaning (now (self .entry) .face) key)) i ≡ told (F·Face .variants (now (self .entry) .face)) i r) ⌝ }
+        ensures parts { λ r. ⌜ ((i : ℕ) → partAt (capped (now (self .entry) .most) (F·Face .meaning (now (self .entry) .face) key)) i ≡ told (F·Face .parts (now (self .entry) .face)) i r) ⌝ }
+    {
+        self.face.find(key)
+    }
 }
 
 pub impl<F: Face> Face for Cap<F> as CapFace {
@@ -58,7 +68,7 @@ pub impl<F: Face> Face for Cap<F> as CapFace {
     }
 
     fn find(&self, key: Key) -> Option<F::Found> {
-        self.face.find(key)
+        self.found_below(key)
     }
 
     fn variant_of(&self, found: F::Found, index: u16) -> Option<Variant> {

@@ -1,6 +1,6 @@
 use mathlib.Core.Path.{_∙_}
 use Rattle.layers.proofs.Entries.{capped-variants, capped-parts}
-use Rattle.layers.proofs.cap.CapFace.find.Needs as need
+use Rattle.layers.proofs.cap.Cap.found_below.Needs as need
 
 pub returns : need.returns
 returns g c =
