@@ -6,6 +6,7 @@ use mathlib.Core.Path.{_≡_, refl, sym}
 use lib.ListN.{length}
 use Rattle.std.specs.Options.{mapped}
 use Rattle.std.specs.declared.option.Option.the-variants.{Some, None}
+use Rattle.std.specs.shelf.Lists.{All}
 use Rattle.std.specs.shelf.Maps.{nth}
 
 pub none-is-not-some : {X : Type 0} {x : X} → None ≡ Some x → ⊥
@@ -36,3 +37,8 @@ pub nth-outside : {X : Type 0} (xs : List X) (i : ℕ) → nth xs i ≡ None →
 nth-outside [] i at = omega arith
 nth-outside (x ∷ xs) zero at = absurd (none-is-not-some (sym at))
 nth-outside (x ∷ xs) (suc i) at = omega (arith, nth-outside xs i at)
+
+-- what holds of the entry at each index holds of all
+pub all-from-nth : {X : Type 0} (P : X → Type 0) (xs : List X) → ((i : ℕ) (x : X) → nth xs i ≡ Some x → P x) → All P xs
+all-from-nth P [] holds = tt
+all-from-nth P (x ∷ xs) holds = (holds 0 x refl, all-from-nth P xs (λ i y at. holds (suc i) y at))

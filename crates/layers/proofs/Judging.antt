@@ -6,21 +6,17 @@ use mathlib.Core.Path.{_≡_, refl, ap, _∙_}
 use lib.ListN.{length}
 use Rattle.std.proofs.shelf.Tests.{le-leb, lt-leb}
 use Rattle.std.specs.Options.{mapped}
-use Rattle.std.specs.declared.option.Option.the-variants.{Some, None}
+use Rattle.std.specs.declared.option.Option.the-variants.{Some}
 use Rattle.std.specs.shelf.Maps.{nth}
 use Rattle.face.specs.Bounds.{LARGEST}
 use Rattle.face.specs.Meaning.{Construction}
 use Rattle.layers.specs.Laws.{EachLengthHasAPlace, WhatFitsIsScaled, TheFirstLengthTooLongIsTheFault}
 use Rattle.layers.specs.Scaling.{scaledConstruction, lengths, firstTooLong, judged}
-use Rattle.layers.proofs.Indexes.{none-is-not-some, nth-inside}
+use Rattle.layers.proofs.Indexes.{none-is-not-some, nth-inside, all-from-nth}
 use Rattle.layers.proofs.Places.{variant-length, part-length}
+use Rattle.layers.proofs.Searching.{all-fit-none}
 
 module _ (k : ℕ) where
-  all-fit-none : (from : ℕ) (xs : List ℕ) → ((q x : ℕ) → nth xs q ≡ Some x → k * x ≤ LARGEST) → firstTooLong k from xs ≡ None
-  all-fit-none from [] fit = refl
-  all-fit-none from (x ∷ xs) fit =
-      rw (le-leb (k * x) LARGEST (fit 0 x refl)) (all-fit-none (from + 1) xs (λ q y at. fit (suc q) y at))
-
   first-is-found : (from place x : ℕ) (xs : List ℕ) → nth xs place ≡ Some x → LARGEST < k * x → ((q y : ℕ) → q < place → nth xs q ≡ Some y → k * y ≤ LARGEST)
       → firstTooLong k from xs ≡ Some (from + place)
   first-is-found from place x [] at long fit = absurd (none-is-not-some at)
@@ -35,7 +31,7 @@ module _ (k : ℕ) where
 
 pub what-fits-is-scaled : WhatFitsIsScaled
 what-fits-is-scaled k key c fit =
-    ap (λ o. judged key o (scaledConstruction k c)) (all-fit-none k 0 (lengths c) fit)
+    ap (λ o. judged key o (scaledConstruction k c)) (all-fit-none k 0 (lengths c) (all-from-nth (λ x. k * x ≤ LARGEST) (lengths c) fit))
 
 pub the-first-length-too-long-is-the-fault : TheFirstLengthTooLongIsTheFault
 the-first-length-too-long-is-the-fault k key c place x at long fit =

@@ -3,12 +3,12 @@ use Prim.Native.Nat.{ℕ, zero, suc, _+_, _-_, _*_, _≤_, _<_}
 use native.Mathlib.Nat.{mul-le-mul-left}
 use native.Mathlib.Omega.{arith}
 use mathlib.Core.Bool.{Bool, true, false, cond}
-use mathlib.Core.List.{List, [], _∷_, _++_, map}
+use mathlib.Core.List.{List, _++_, map}
 use mathlib.Core.Path.{_≡_, refl, sym, ap, _∙_}
 use lib.Dec.{leb, ltb, eqb}
 use lib.ListN.{length, length-map, length-append}
-use Rattle.std.proofs.shelf.Elements.{all-append, all-map}
-use Rattle.std.proofs.shelf.Tests.{le-leb, leb-true, ltb-true, ltb-false, ne-eqb}
+use Rattle.std.proofs.shelf.Elements.{all-append, all-map, all-weaker}
+use Rattle.std.proofs.shelf.Tests.{leb-true, ltb-true, ltb-false, ne-eqb}
 use Rattle.std.specs.declared.option.Option.{Option}
 use Rattle.std.specs.declared.option.Option.the-variants.{Some, None}
 use Rattle.std.specs.declared.result.Result.the-variants.{Ok}
@@ -24,6 +24,7 @@ use Rattle.face.proofs.Looking.{look-finds}
 use Rattle.layers.specs.Answers.{lengthsOf, lengthAt}
 use Rattle.layers.specs.Scaling.{lengths, firstTooLong}
 use Rattle.layers.proofs.Indexes.{nth-map, nth-front, nth-back}
+use Rattle.layers.proofs.Searching.{all-fit-none}
 
 -- the length of a variant, and of a part, which comes after those of all variants
 pub variant-length : (vs : List Variant) (ys : List ℕ) (i : ℕ) → i < length vs → nth (map (λ v. v .advance) vs ++ ys) i ≡ mapped (λ v. v .advance) (nth vs i)
@@ -68,20 +69,16 @@ places m below known =
     let parts : length (c .parts) ≡ below .parts = ap (λ look. look .parts) is in
     omega (arith, length-append advances fulls, length-map (c .variants) (λ v. v .advance), length-map (c .parts) (λ p. p .full)))
 
--- where no length of a key is above n, and n fits, each fits
-all-below : (k n : ℕ) → k * n ≤ LARGEST → (place : ℕ) (xs : List ℕ) → All (λ x. x ≤ n) xs → firstTooLong k place xs ≡ None
-all-below k n fits place [] all = refl
-all-below k n fits place (x ∷ xs) all =
-    let fit : leb (k * x) LARGEST ≡ true = le-leb (k * x) LARGEST (omega (arith, mul-le-mul-left k (all .0))) in
-    rw fit (all-below k n fits (place + 1) xs (all .1))
-
+-- where no length of a key is above n, and n fits, none is too long
 pub longest-fits : (k n : ℕ) (m : Meaning) → Bounded n m → leb (k * n) LARGEST ≡ true → firstTooLong k 0 (lengthsOf m) ≡ None
 longest-fits k n unknown b fits = refl
 longest-fits k n (faulty f) b fits = refl
 longest-fits k n (construction c) b fits =
-    all-below k n (leb-true (k * n) LARGEST fits) 0 (lengths c) (
+    let most = leb-true (k * n) LARGEST fits in
+    let short : All (λ x. x ≤ n) (lengths c) = (
       b .least,
       all-append _ (map (λ v. v .advance) (c .variants)) (map (λ p. p .full) (c .parts))
           (all-map _ (λ v. v .advance) (c .variants) (b .advances))
           (all-map _ (λ p. p .full) (c .parts) (b .fulls)),
-    )
+    ) in
+    all-fit-none k 0 (lengths c) (all-weaker (λ x. x ≤ n) (λ x. k * x ≤ LARGEST) (λ x le. omega (arith, mul-le-mul-left k le)) (lengths c) short)

@@ -7,13 +7,20 @@ use mathlib.Core.Path.{_≡_, refl, sym, ap, _∙_}
 use lib.Dec.{leb}
 use lib.ListN.{length, drop}
 use Rattle.std.proofs.shelf.Lists.{at-drop-all}
+use Rattle.std.proofs.shelf.Tests.{le-leb}
 use Rattle.std.specs.declared.option.Option.the-variants.{Some, None}
+use Rattle.std.specs.shelf.Lists.{All}
 use Rattle.std.specs.shelf.Maps.{nth}
 use Rattle.face.specs.Bounds.{LARGEST}
 use Rattle.layers.specs.Scaling.{firstTooLong}
 use Rattle.layers.proofs.Indexes.{none-is-not-some, nth-outside}
 
 module _ (k : ℕ) where
+  -- where every length fits, none is found
+  pub all-fit-none : (from : ℕ) (xs : List ℕ) → All (λ x. k * x ≤ LARGEST) xs → firstTooLong k from xs ≡ None
+  all-fit-none from [] fit = refl
+  all-fit-none from (x ∷ xs) fit = rw (le-leb (k * x) LARGEST (fit .0)) (all-fit-none (from + 1) xs (fit .1))
+
   -- what the search comes to from a place on, by the length there
   here : (xs : List ℕ) (i p x : ℕ) → nth xs i ≡ Some x → firstTooLong k p (drop i xs) ≡ cond (leb (k * x) LARGEST) (firstTooLong k (p + 1) (drop (suc i) xs)) (Some p)
   here [] i p x e = absurd (none-is-not-some e)

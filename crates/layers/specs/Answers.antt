@@ -45,11 +45,11 @@ lookedAt k below (Err f) = Err f
 abbrev pub variantFrom : ℕ → Variant → Variant
 variantFrom k v = record { face = v .face; glyph = v .glyph; advance = times k (v .advance) }
 
--- how a scale makes a part of one below,
+-- how a scale makes a part of one below
 abbrev pub PartFrom : ℕ → Part → Part → Type 0
 PartFrom k p q = Clamped (p .face) (p .glyph) (times k (p .start)) (times k (p .end)) (times k (p .full)) (p .extender) q
 
--- and the one part that it makes
+-- the one part that it makes
 abbrev pub partFrom : ℕ → Part → Part
 partFrom k p = clampedPart (p .face) (p .glyph) (times k (p .start)) (times k (p .end)) (times k (p .full)) (p .extender)
 

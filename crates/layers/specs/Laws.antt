@@ -48,7 +48,7 @@ abbrev pub WhatFitsIsScaled : Type 0
 WhatFitsIsScaled =
     (k : ℕ) (key : Key) (c : Construction) → AllFit k c → scaled k key (construction c) ≡ construction (scaledConstruction k c)
 
--- and else a fault, at the first place whose length does not fit
+-- it has a fault where one does not, at the place of the first that does not
 abbrev pub TheFirstLengthTooLongIsTheFault : Type 0
 TheFirstLengthTooLongIsTheFault =
     (k : ℕ) (key : Key) (c : Construction) (place x : ℕ) → nth (lengths c) place ≡ Some x → LARGEST < k * x → FitBefore k c place

@@ -8,6 +8,7 @@ use mathlib.Core.List.{List, [], _∷_, _++_, map}
 use mathlib.Core.Path.{_≡_, refl}
 use lib.Dec.{leb}
 use lib.ListN.{length-map}
+use Rattle.std.proofs.shelf.Elements.{all-weaker}
 use Rattle.std.specs.declared.option.Option.{Option}
 use Rattle.std.specs.declared.option.Option.the-variants.{Some, None}
 use Rattle.std.specs.shelf.Lists.{All}
@@ -16,11 +17,6 @@ use Rattle.face.specs.Bounds.{LARGEST, Within, Bounded}
 use Rattle.face.specs.Meaning.{Meaning, unknown, faulty, construction, Construction}
 use Rattle.layers.specs.Layers.{raised, fallenBack, capped}
 use Rattle.layers.specs.Scaling.{scaledVariant, scaledPart, scaledConstruction, lengths, firstTooLong, judged, scaled}
-
--- what holds of a smaller bound holds of a larger one
-all-up-to : {X : Type 0} (f : X → ℕ) (n m : ℕ) → n ≤ m → (xs : List X) → All (λ x. f x ≤ n) xs → All (λ x. f x ≤ m) xs
-all-up-to f n m le [] all = tt
-all-up-to f n m le (x ∷ xs) all = (omega (arith, all .0), all-up-to f n m le xs (all .1))
 
 -- of two lists, one after the other
 all-parted : {X : Type 0} (P : X → Type 0) (xs ys : List X) → All P (xs ++ ys) → All P xs × All P ys
@@ -43,8 +39,8 @@ bounded-raised n k le (construction c) b =
     record {
       limit = b .limit;
       least = omega (arith, b .least);
-      advances = all-up-to (λ v. v .advance) n k le (c .variants) (b .advances);
-      fulls = all-up-to (λ p. p .full) n k le (c .parts) (b .fulls);
+      advances = all-weaker (λ v. v .advance ≤ n) (λ v. v .advance ≤ k) (λ v short. omega arith) (c .variants) (b .advances);
+      fulls = all-weaker (λ p. p .full ≤ n) (λ p. p .full ≤ k) (λ p short. omega arith) (c .parts) (b .fulls);
       variants = b .variants;
       parts = b .parts;
     }

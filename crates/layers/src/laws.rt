@@ -34,12 +34,12 @@ pub fn each_length_has_a_place()
     ensures { λ _. ⌜ ((c : Construction) → EachLengthHasAPlace c) ⌝ }
 {}
 
-// A scaled key has a construction where every length fits,
+// A scaled key has a construction where every length fits.
 pub fn what_fits_is_scaled()
     ensures { λ _. ⌜ WhatFitsIsScaled ⌝ }
 {}
 
-// and else a fault, at the first length that does not.
+// It has a fault where one does not, at the first that does not.
 pub fn the_first_length_too_long_is_the_fault()
     ensures { λ _. ⌜ TheFirstLengthTooLongIsTheFault ⌝ }
 {}
