@@ -1,5 +1,7 @@
 // Measures how the time to read all variants of a key through layers grows with their number.
 // The sums of what was read go to standard output, the times to standard error.
+#![tactic(auto)]
+
 mod readings;
 mod tables;
 

@@ -1,10 +1,10 @@
 -- The level and the stretches: what they add up to.
-use Rattle.std.proofs.Common.{◌≡◌, ℕ, zero, suc, ◌+◌, ◌-◌, ◌<◌, ◌≤◌, min, max, Bool, true, cond, leb, List, [], ◌∷◌, Some, None, Option, unwrap_or, refl, ap, ◌∙◌, ⊎_elim, arith, MatchOption}
+use Rattle.std.proofs.Common.{◌≡◌, ℕ, zero, suc, ◌+◌, ◌-◌, ◌<◌, ◌≤◌, min, Bool, true, leb, List, [], ◌∷◌, Some, None, Option, unwrap_or, refl, ap, ◌∙◌, ⊎_elim, arith, MatchOption}
 use Rattle.std.proofs.lemmas.Bool.{cond_both, cases_lt, both_ways, leb-true, le-leb}
 use Rattle.std.specs.List.{AllZip}
 use Rattle.choice.specs.Assemblies.{total, sum}
 use Rattle.choice.specs.Laws.{TheLevelIsOne, StretchesTakeUpTheExcess}
-use Rattle.choice.specs.Spreading.{highest, filled, last, level, Level, unit, spread, stretches}
+use Rattle.choice.specs.Spreading.{highest, filled, last, level, Level, unit, spread}
 
 -- `last` is the largest number up to n that passes
 last_stands : (test : ℕ → Bool) (n : ℕ) → test 0 ≡ true

@@ -1,8 +1,7 @@
 -- Everything grows by the same for each further repeat.
-use Rattle.std.proofs.Common.{◌≡◌, ℕ, zero, suc, ◌+◌, ◌-◌, ◌*◌, ◌<◌, ◌≤◌, min, Bool, true, false, cond, ◌&&◌, ◌||◌, eqb, leb, List, [], ◌∷◌, ◌++◌, map, length, replicate, sym, refl, ap, ◌∙◌, arith}
+use Rattle.std.proofs.Common.{◌≡◌, ℕ, zero, suc, ◌+◌, ◌*◌, Bool, true, false, cond, ◌&&◌, ◌||◌, eqb, leb, List, [], ◌∷◌, ◌++◌, map, length, replicate, sym, refl, ap, ◌∙◌, arith}
 use Rattle.std.proofs.lemmas.Bool.{ne_eqb}
 use Rattle.face.specs.declared.parts.Part.{Part}
-use Rattle.choice.specs.declared.totals.Sums.{Sums}
 use Rattle.choice.specs.Assemblies.{total, sum, pieces, extenders, most, mosts_from, mosts}
 use Rattle.choice.specs.Spans.{roomy}
 use Rattle.choice.specs.Totals.{sums_of, gains_of, grown}

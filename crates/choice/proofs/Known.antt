@@ -1,5 +1,5 @@
 -- What is asked of a key that has a construction.
-use Rattle.std.proofs.Common.{◌≡◌, ℕ, ◌≤◌, cond, List, [], length, Some, Ok, Option, sym, refl, ap, ◌∙◌}
+use Rattle.std.proofs.Common.{◌≡◌, ℕ, ◌≤◌, cond, List, [], length, Some, Ok, Option, sym, ap, ◌∙◌}
 use Rattle.std.specs.Option.{option_map, ok_or, option_or}
 use Rattle.face.proofs.Looking.{look_finds}
 use Rattle.face.specs.declared.looks.Look.{Look}

@@ -1,15 +1,15 @@
 -- How the pieces of an assembly that is taken lie.
-use Rattle.std.proofs.Common.{◌≡◌, ℕ, zero, suc, ◌+◌, ◌-◌, ◌<◌, ◌≤◌, min, Bool, true, false, cond, ◌&&◌, leb, List, [], ◌∷◌, map, length, Some, None, Option, sym, refl, ap, ◌∙◌, arith}
-use Rattle.std.proofs.lemmas.Bool.{cond-true, and_from, le-leb}
+use Rattle.std.proofs.Common.{◌≡◌, ℕ, zero, suc, ◌+◌, ◌-◌, ◌≤◌, true, List, [], ◌∷◌, map, length, Some, sym, refl, ap, ◌∙◌, arith}
+use Rattle.std.proofs.lemmas.Bool.{and_from, le-leb}
 use Rattle.std.specs.List.{slice_get}
 use Rattle.face.proofs.Indexes.{none_is_not_some}
 use Rattle.face.specs.declared.parts.Part.{Part}
 use Rattle.face.specs.Meaning.{Construction}
 use Rattle.choice.specs.declared.placing.Piece.{Piece}
-use Rattle.choice.specs.Assemblies.{Within, Legal, pieces, mosts_from, mosts, size}
+use Rattle.choice.specs.Assemblies.{Within, pieces, mosts_from, mosts}
 use Rattle.choice.specs.Laws.{LaidOut, TakenAssembliesAreLaidOut}
 use Rattle.choice.specs.Pieces.{pieces_from, placed, in_span}
-use Rattle.choice.specs.Spans.{smallest, largest, possible, span}
+use Rattle.choice.specs.Spans.{smallest, largest, span}
 use Rattle.choice.specs.Spreading.{overlaps}
 use Rattle.choice.proofs.Sizing.{sizes_lie_between}
 

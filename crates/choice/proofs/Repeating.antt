@@ -1,9 +1,8 @@
 -- More repeats never make the size with every joint at its most smaller.
-use Rattle.std.proofs.Common.{◌≡◌, ℕ, zero, suc, ◌+◌, ◌-◌, ◌<◌, ◌≤◌, min, Bool, true, false, cond, List, [], ◌∷◌, ◌++◌, length, replicate, refl, arith}
+use Rattle.std.proofs.Common.{◌≡◌, ℕ, zero, suc, ◌+◌, ◌≤◌, true, false, cond, List, [], ◌∷◌, ◌++◌, length, replicate, refl, arith}
 use Rattle.face.specs.declared.parts.Part.{Part}
 use Rattle.choice.specs.Assemblies.{total, sum, copies, pieces, most, mosts_from, mosts}
 use Rattle.choice.specs.Laws.{MoreRepeatsAreNeverSmaller}
-use Rattle.choice.specs.Spans.{smallest}
 use Rattle.choice.proofs.Sizing.{mosts_low}
 
 -- the pieces qs are the pieces ps with others inserted

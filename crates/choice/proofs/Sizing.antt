@@ -1,12 +1,12 @@
 -- The legal sizes at one repeat count: from the smallest to the largest, and each number between.
-use Rattle.std.proofs.Common.{◌≡◌, ℕ, zero, suc, ◌+◌, ◌-◌, ◌<◌, ◌≤◌, min, Bool, true, false, ◌&&◌, ltb, leb, List, [], ◌∷◌, map, length, Some, None, refl, arith}
+use Rattle.std.proofs.Common.{◌≡◌, ℕ, zero, suc, ◌+◌, ◌-◌, ◌<◌, ◌≤◌, min, true, ltb, leb, List, [], ◌∷◌, map, length, Some, None, refl, arith}
 use Rattle.std.proofs.lemmas.Bool.{leb-true, le-leb, ltb-true, lt-ltb, and_parts, and_from, both_ways, cond_both}
 use Rattle.std.specs.List.{AllZip}
 use Rattle.face.specs.declared.parts.Part.{Part}
 use Rattle.choice.specs.Assemblies.{MOST_PIECES, total, sum, pieces, extenders, mosts_from, mosts, Within, Legal, size}
 use Rattle.choice.specs.Laws.{ASpanTellsTheLegalSizes}
 use Rattle.choice.specs.SpanTells.{SpanTells}
-use Rattle.choice.specs.Spans.{smallest, largest, roomy, possible, span}
+use Rattle.choice.specs.Spans.{smallest, largest, roomy, possible}
 use Rattle.choice.specs.Spreading.{slacks, stretches, less, overlaps}
 use Rattle.choice.proofs.Filling.{stretches_take_up_the_excess}
 

@@ -1,12 +1,12 @@
 -- The span at any repeat count, from the totals.
-use Rattle.std.proofs.Common.{◌≡◌, ℕ, zero, suc, ◌+◌, ◌-◌, ◌*◌, ◌<◌, ◌≤◌, min, Bool, true, false, cond, ◌&&◌, ltb, leb, List, [], ◌∷◌, map, length, Some, None, sym, refl, ap, ◌∙◌, arith}
+use Rattle.std.proofs.Common.{◌≡◌, ℕ, zero, suc, ◌-◌, ◌*◌, ◌<◌, ◌≤◌, min, true, false, leb, List, [], ◌∷◌, map, length, sym, refl, ap, ◌∙◌, arith}
 use Rattle.std.proofs.lemmas.Bool.{le-leb}
 use Rattle.face.specs.declared.parts.Part.{Part}
 use Rattle.choice.specs.declared.totals.Sums.{Sums}
 use Rattle.choice.specs.declared.totals.Totals.{Totals}
 use Rattle.choice.specs.Assemblies.{MOST_PIECES, sum, pieces, extenders, mosts_from, mosts}
-use Rattle.choice.specs.Spans.{possible, roomy, span}
-use Rattle.choice.specs.Totals.{sums_of, gains_of, grown, span_of_sums, Describes, SumsAt, NoneFrom}
+use Rattle.choice.specs.Spans.{possible, span}
+use Rattle.choice.specs.Totals.{sums_of, grown, span_of_sums, Describes, SumsAt, NoneFrom}
 use Rattle.choice.proofs.Bools.{refuted}
 use Rattle.choice.proofs.Growing.{sums_grow}
 use Rattle.choice.proofs.Sizing.{possible_parts}

@@ -1,5 +1,5 @@
 -- The pieces of an assembly, as a cursor reads them.
-use Rattle.std.proofs.Common.{◌≡◌, ℕ, zero, suc, ◌+◌, ◌-◌, ◌<◌, ◌≤◌, Bool, true, false, cond, List, [], ◌∷◌, ◌++◌, length, take, drop, Some, None, Option, sym, refl, ap, ◌∙◌, arith}
+use Rattle.std.proofs.Common.{◌≡◌, ℕ, zero, suc, ◌+◌, ◌-◌, ◌≤◌, Bool, true, false, cond, List, [], ◌∷◌, length, take, drop, Some, None, Option, sym, refl, ap, ◌∙◌, arith}
 use Rattle.std.proofs.lemmas.List.{drop_all}
 use Rattle.std.proofs.lemmas.Bool.{cond-true}
 use Rattle.face.proofs.Indexes.{none_is_not_some, drop_nth, nth_outside}
@@ -64,8 +64,8 @@ record InSpan (least : ℕ) (parts : List Part) (r z e : ℕ) : Type 0 where
   can : possible least parts r ≡ true
   excess_is : e ≡ z - smallest parts r
 
-in_span : (least : ℕ) (parts : List Part) (r z e : ℕ) → Some e ≡ excess_in (span least parts r) z → InSpan least parts r z e
-in_span least parts r z e is = go (possible least parts r) refl is
+in_span_lem : (least : ℕ) (parts : List Part) (r z e : ℕ) → Some e ≡ excess_in (span least parts r) z → InSpan least parts r z e
+in_span_lem least parts r z e is = go (possible least parts r) refl is
   where
     sizes : ℕ × ℕ
     sizes = (smallest parts r, largest least parts r)
@@ -81,5 +81,5 @@ pub assembled_is : (least : ℕ) (parts : List Part) (r z e : ℕ) (ps : List Pi
     → (length (pieces r parts) ≤ MOST_PIECES → ps ≡ spread_over least parts r e)
     → ps ≡ cond (in_span (span least parts r) z) (placed (pieces r parts) (overlaps least parts r z)) []
 assembled_is least parts r z e ps is spreads =
-    let h = in_span least parts r z e is in
+    let h = in_span_lem least parts r z e is in
     spreads (possible_parts least parts r h.can).few ∙ ap (spread_over least parts r) h.excess_is ∙ sym (cond-true _ _ [] h.inside)

@@ -1,10 +1,9 @@
 -- The search over repeat counts: where it stops, and what it has found then.
-use Rattle.std.proofs.Common.{◌≡◌, ℕ, suc, ◌+◌, ◌-◌, ◌<◌, ◌≤◌, min, max, Bool, true, false, cond, ltb, leb, List, length, Some, None, Option, sym, refl, ap, ◌∙◌, ⊎_elim, arith}
+use Rattle.std.proofs.Common.{◌≡◌, ℕ, ◌+◌, ◌-◌, ◌<◌, ◌≤◌, Bool, true, false, cond, ltb, List, length, Some, None, sym, refl, ap, ◌∙◌, ⊎_elim, arith}
 use Rattle.std.proofs.lemmas.Bool.{cond_both, cond-false, ltb-true, lt-leb, or_cases}
 use Rattle.std.specs.Option.{option_map}
 use Rattle.face.proofs.Indexes.{none_is_not_some}
 use Rattle.face.specs.declared.parts.Part.{Part}
-use Rattle.choice.specs.declared.signs.Sign.{Sign}
 use Rattle.choice.specs.declared.signs.Sign.TheVariants.{Assembly}
 use Rattle.choice.specs.declared.totals.Sums.{Sums}
 use Rattle.choice.specs.declared.totals.Totals.{Totals}

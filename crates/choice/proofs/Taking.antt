@@ -1,15 +1,15 @@
 -- The first repeat count that passes, with the smallest size there that fits, is best of all.
-use Rattle.std.proofs.Common.{◌≡◌, ℕ, zero, suc, ◌+◌, ◌-◌, ◌*◌, ◌<◌, ◌≤◌, min, max, Bool, true, false, cond, List, [], ◌∷◌, ◌++◌, length, replicate, Some, None, Option, sym, refl, ap, ◌∙◌, ⊎_elim, add-one, arith, length-append, MatchOption}
+use Rattle.std.proofs.Common.{◌≡◌, ℕ, zero, suc, ◌+◌, ◌*◌, ◌<◌, ◌≤◌, min, Bool, true, false, cond, List, [], ◌∷◌, ◌++◌, length, replicate, Some, None, Option, sym, refl, ap, ◌∙◌, ⊎_elim, add-one, arith, length-append, MatchOption}
 use lib.ListN.{length-replicate}
 use Rattle.std.proofs.lemmas.Bool.{cond-true, cond-false, cases_lt, cond_both, both_ways, false≢true, leb-true, le-leb}
 use Rattle.face.specs.declared.parts.Part.{Part}
 use Rattle.face.specs.Meaning.{Construction}
-use Rattle.choice.specs.Assemblies.{total, pieces, extenders, Legal, size}
-use Rattle.choice.specs.Choosing.{Fits, meets, reaches, first, repeats, chosen_size}
+use Rattle.choice.specs.Assemblies.{pieces, extenders, Legal, size}
+use Rattle.choice.specs.Choosing.{Fits, meets, reaches, first, chosen_size}
 use Rattle.choice.specs.Laws.{TheBestIsOne}
-use Rattle.choice.specs.Spans.{smallest, largest, possible, span}
+use Rattle.choice.specs.Spans.{smallest, largest, possible}
 use Rattle.choice.specs.Spreading.{overlaps}
-use Rattle.choice.specs.Unbettered.{NoAssemblyFits, BestAssembly}
+use Rattle.choice.specs.Unbettered.{BestAssembly}
 use Rattle.choice.proofs.Repeating.{more_repeats_are_never_smaller}
 use Rattle.choice.proofs.Sizing.{sizes_lie_between, sizes_are_reached}
 

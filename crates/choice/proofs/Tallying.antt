@@ -6,7 +6,7 @@ use Rattle.face.proofs.Indexes.{drop_nth, nth_outside}
 use Rattle.face.specs.declared.parts.Part.{Part}
 use Rattle.choice.specs.declared.totals.Sums.{Sums}
 use Rattle.choice.specs.declared.totals.Totals.{Totals}
-use Rattle.choice.specs.Assemblies.{total, sum, pieces, extenders, most, mosts_from, mosts}
+use Rattle.choice.specs.Assemblies.{total, sum, pieces, extenders, most, mosts_from}
 use Rattle.choice.specs.Spans.{roomy}
 use Rattle.choice.specs.Totals.{added, followed, gained, Completed, completed, no_parts, Describes, Small, SmallTotals, Entries}
 use Rattle.choice.proofs.Bools.{and_true, and_assoc}

@@ -1,5 +1,5 @@
 -- What is chosen cannot be bettered.
-use Rattle.std.proofs.Common.{◌≡◌, ℕ, zero, suc, ◌+◌, ◌-◌, ◌<◌, ◌≤◌, Bool, true, false, cond, ◌&&◌, leb, List, [], ◌∷◌, Some, None, Ok, Err, Option, Result, sym, refl, ap, ◌∙◌, arith, MatchOption}
+use Rattle.std.proofs.Common.{◌≡◌, ℕ, zero, suc, ◌+◌, ◌-◌, ◌<◌, ◌≤◌, true, false, leb, List, [], ◌∷◌, Some, None, Ok, Err, Option, Result, refl, ap, ◌∙◌, arith, MatchOption}
 use Rattle.std.proofs.lemmas.Bool.{cond_both, both_ways, leb-true, le-leb, and_parts, and_from}
 use Rattle.std.specs.Option.{option_map, ok_or, option_or}
 use Rattle.std.specs.List.{slice_get}
@@ -13,7 +13,7 @@ use Rattle.choice.specs.declared.signs.Sign.{Sign}
 use Rattle.choice.specs.declared.signs.Sign.TheVariants.{Variant as ReadyMade, Assembly}
 use Rattle.choice.specs.Choosing.{Fits, fits, first_variant, reaches, repeats, assembly, chosen, choice}
 use Rattle.choice.specs.Laws.{NothingFitsExactly}
-use Rattle.choice.specs.Unbettered.{NoVariantFits, NoAssemblyFits, FirstVariant, UnbetteredSign, UnbetteredIn, Unbettered}
+use Rattle.choice.specs.Unbettered.{NoVariantFits, NoAssemblyFits, UnbetteredSign, UnbetteredIn, Unbettered}
 use Rattle.choice.proofs.Taking.{first_stands, first_is_best, reaches_all, repeats_few}
 
 fits_so : (target limit z : ℕ) → fits target limit z ≡ true → Fits target limit z

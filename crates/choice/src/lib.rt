@@ -1,5 +1,7 @@
 // The choice of a sign: the first variant that fits a target, or else the best stack of parts.
 // Generic over any face.
+#![tactic(auto)]
+
 pub mod choosing;
 mod cursors;
 mod joints;

@@ -1,5 +1,7 @@
 // A face: what a font offers for a sign that stretches.
 // Types, the trait `Face` and its meaning. Nothing here reads bytes.
+#![tactic(auto)]
+
 pub mod bounds;
 mod clamping;
 pub mod faces;

@@ -1,4 +1,6 @@
 // Layers: each is a face over any faces. A fault from below goes up whole through every layer.
+#![tactic(auto)]
+
 pub mod cap;
 pub mod fallback;
 pub mod laws;

@@ -1,5 +1,7 @@
 // A face that is read from the bytes of an OpenType MATH table, without copying them.
 // Tables are read as the OpenType specification lays them out; docs/math-table.md has our rules.
+#![tactic(auto)]
+
 mod coverages;
 mod entries;
 pub mod found;

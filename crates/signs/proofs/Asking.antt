@@ -5,9 +5,9 @@ use Rattle.face.specs.declared.keys.Axis.{Axis}
 use Rattle.face.specs.declared.keys.Axis.TheVariants.{Upright, Level}
 use Rattle.text.proofs.Written.{a_number_is_read_as_it_is_written}
 use Rattle.text.specs.Numbers.{numeral}
-use Rattle.signs.proofs.Fielding.{numbers_are_three_fields}
+use Rattle.signs.proofs.Fielding.{numbers_are_two_fields}
 use Rattle.signs.specs.Laws.{axis_number, AQuestionIsReadAsItIsWritten}
-use Rattle.signs.specs.Questions.{glyph_of, axis_of, target_of, keyed, fielded}
+use Rattle.signs.specs.Questions.{glyph_of, axis_of, keyed, fielded}
 
 small : (axis : Axis) → axis_number axis ≤ 1
 small Upright = omega arith
@@ -20,11 +20,8 @@ axis_read Level = rw (a_number_is_read_as_it_is_written 1 (omega arith))
 glyph_read : (glyph : ℕ) → glyph ≤ 65535 → glyph_of (numeral (written glyph)) ≡ Ok glyph
 glyph_read glyph most = rw (a_number_is_read_as_it_is_written glyph (omega arith), le-leb glyph 65535 most)
 
-target_read : (target : ℕ) → target ≤ 4294967295 → target_of (numeral (written target)) ≡ Ok target
-target_read target most = rw (a_number_is_read_as_it_is_written target most)
-
 pub a_question_is_read_as_it_is_written : AQuestionIsReadAsItIsWritten
-a_question_is_read_as_it_is_written q most most' =
-    let s = small q.key.axis in
-    ap fielded (numbers_are_three_fields q.key.glyph (axis_number q.key.axis) q.target (omega arith) (omega arith) (omega arith))
-    ∙ (λ i. keyed (glyph_read q.key.glyph most i) (axis_read q.key.axis i) (target_read q.target most' i))
+a_question_is_read_as_it_is_written key most =
+    let s = small key.axis in
+    ap fielded (numbers_are_two_fields key.glyph (axis_number key.axis) (omega arith) (omega arith))
+    ∙ (λ i. keyed (glyph_read key.glyph most i) (axis_read key.axis i))

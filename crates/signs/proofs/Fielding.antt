@@ -1,8 +1,8 @@
--- Numbers that are written with tabs between them are fields.
-use Rattle.std.proofs.Common.{◌≡◌, ℕ, ◌^◌, ◌<◌, List, ◌∷◌, ◌++◌, Some, decimal as written, ap, ◌∙◌, arith}
+-- Two numbers that are written with a tab between them are two fields.
+use Rattle.std.proofs.Common.{◌≡◌, ℕ, ◌^◌, ◌<◌, List, ◌∷◌, ◌++◌, Some, decimal as written, ◌∙◌, arith}
 use Rattle.text.proofs.Joining.{after_without, what_is_joined_is_cut_there}
 use Rattle.text.proofs.Written.{written_without}
-use Rattle.signs.specs.Fields.{parted, two_fields, before_two, parted_three, three_fields}
+use Rattle.signs.specs.Fields.{parted, two_fields}
 
 -- the second field holds no tab
 one_tab : (front : List ℕ) (n : ℕ) → n < 2 ^ 64 → parted front (Some (written n)) ≡ Some (front, written n)
@@ -12,9 +12,3 @@ pub numbers_are_two_fields : (a b : ℕ) → a < 2 ^ 64 → b < 2 ^ 64 → two_f
 numbers_are_two_fields a b small small' =
     let cut = what_is_joined_is_cut_there 9 (written a) (written b) (written_without 9 a (omega arith) small) in
     (λ i. parted (cut.0 i) (cut.1 i)) ∙ one_tab (written a) b small'
-
-pub numbers_are_three_fields : (a b c : ℕ) → a < 2 ^ 64 → b < 2 ^ 64 → c < 2 ^ 64
-    → three_fields (written a ++ 9 ∷ (written b ++ 9 ∷ written c)) ≡ Some (written a, written b, written c)
-numbers_are_three_fields a b c small small' small'' =
-    let cut = what_is_joined_is_cut_there 9 (written a) (written b ++ 9 ∷ written c) (written_without 9 a (omega arith) small) in
-    (λ i. parted_three (cut.0 i) (cut.1 i)) ∙ ap (before_two (written a)) (numbers_are_two_fields b c small' small'')

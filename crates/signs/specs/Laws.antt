@@ -2,8 +2,8 @@
 use Rattle.std.specs.Prelude.{◌≡◌, ℕ, ◌≤◌, List, ◌∷◌, ◌++◌, Ok, decimal as written}
 use Rattle.face.specs.declared.keys.Axis.{Axis}
 use Rattle.face.specs.declared.keys.Axis.TheVariants.{Upright, Level}
+use Rattle.face.specs.declared.keys.Key.{Key}
 use Rattle.signs.specs.declared.piles.Pile.{Pile}
-use Rattle.signs.specs.declared.questions.Question.{Question}
 use Rattle.signs.specs.Piles.{piled}
 use Rattle.signs.specs.Questions.{asked}
 
@@ -20,11 +20,10 @@ abbrev pub axis_number : Axis → ℕ
 axis_number Upright = 0
 axis_number Level = 1
 
--- a question as it is written: glyph, tab, axis, tab, target
-abbrev pub written_question : Question → List ℕ
-written_question q = written q.key.glyph ++ 9 ∷ (written (axis_number q.key.axis) ++ 9 ∷ written q.target)
+-- a key as it is written: glyph, tab, axis
+abbrev pub writtenKey : Key → List ℕ
+writtenKey key = written key.glyph ++ 9 ∷ written (axis_number key.axis)
 
--- every key can be asked about, at every target
+-- every key can be asked about
 abbrev pub AQuestionIsReadAsItIsWritten : Type 0
-AQuestionIsReadAsItIsWritten =
-    (q : Question) → q.key.glyph ≤ 65535 → q.target ≤ 4294967295 → asked (written_question q) ≡ Ok q
+AQuestionIsReadAsItIsWritten = (key : Key) → key.glyph ≤ 65535 → asked (writtenKey key) ≡ Ok key

@@ -6,8 +6,3 @@ use Rattle.std.specs.Borrow.{Bor}
 abbrev pub viewed : Option (Bor (List ℕ) × Bor (List ℕ)) → Option (List ℕ × List ℕ)
 viewed None = None
 viewed (Some p) = Some (p.0.now, p.1.now)
-
--- three fields by their bytes, where there are three
-abbrev pub viewed_three : Option (Bor (List ℕ) × Bor (List ℕ) × Bor (List ℕ)) → Option (List ℕ × List ℕ × List ℕ)
-viewed_three None = None
-viewed_three (Some p) = Some (p.0.now, p.1.now, p.2.now)

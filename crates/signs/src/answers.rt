@@ -1,9 +1,8 @@
 ghost use Rattle.std.specs.Prelude.{◌≡◌, codes};
 ghost use Rattle.face.specs.declared.keys.Axis.TheVariants.{Upright, Level};
 
-use crate::questions::{Question, question};
-use choice::{Missing, Pieces, Sign, choose};
-use face::{Axis, Face, Fault, Key};
+use crate::questions::question;
+use face::{Axis, Face, Fault, Key, Look};
 use std::io;
 use std::io::Write;
 use text::next_line;
@@ -17,6 +16,43 @@ fn axis_word(axis: Axis) -> &'static str
     }
 }
 
+fn print_variants<W: Write, F: Face>(
+    out: &mut W,
+    face: &F,
+    found: F::Found,
+    count: u16,
+) -> io::Result<()> {
+    for index in 0..count {
+        if let Some(variant) = face.variant_of(found, index) {
+            writeln!(
+                out,
+                "  variant {index}: face {} glyph {} advance {}",
+                variant.face, variant.glyph, variant.advance
+            )?;
+        }
+    }
+    Ok(())
+}
+
+fn print_parts<W: Write, F: Face>(
+    out: &mut W,
+    face: &F,
+    found: F::Found,
+    count: u16,
+) -> io::Result<()> {
+    for index in 0..count {
+        if let Some(part) = face.part_of(found, index) {
+            let extender = if part.extender { " extender" } else { "" };
+            writeln!(
+                out,
+                "  part {index}: face {} glyph {} start {} end {} full {}{extender}",
+                part.face, part.glyph, part.start, part.end, part.full
+            )?;
+        }
+    }
+    Ok(())
+}
+
 fn print_fault<W: Write>(out: &mut W, fault: Fault) -> io::Result<()> {
     writeln!(
         out,
@@ -25,50 +61,28 @@ fn print_fault<W: Write>(out: &mut W, fault: Fault) -> io::Result<()> {
     )
 }
 
-// The pieces of a sign, each with its overlap over the one before it.
-fn print_pieces<W: Write, F: Face>(out: &mut W, face: &F, key: Key, sign: Sign) -> io::Result<()> {
-    for piece in Pieces::new(face, key, sign) {
-        writeln!(
-            out,
-            "  face {} glyph {} overlap {}",
-            piece.face, piece.glyph, piece.overlap
-        )?;
+fn print_construction<W: Write, F: Face>(
+    out: &mut W,
+    face: &F,
+    key: Key,
+    look: Look,
+) -> io::Result<()> {
+    writeln!(out, "construction")?;
+    writeln!(out, "  limit {}", look.limit)?;
+    writeln!(out, "  least overlap {}", look.least)?;
+    if let Some(found) = face.find(key) {
+        print_variants(out, face, found, look.variants)?;
+        print_parts(out, face, found, look.parts)?;
     }
     Ok(())
 }
 
-fn print_sign<W: Write>(out: &mut W, sign: Sign) -> io::Result<()> {
-    match sign {
-        Sign::Variant { index, variant } => writeln!(
-            out,
-            "variant {index} size {}",
-            variant.advance
-        ),
-        Sign::Assembly {
-            repeats,
-            size,
-            pieces,
-        } => writeln!(out, "repeats {repeats} size {size} pieces {pieces}"),
-    }
-}
-
-// Which sign a face takes.
-fn print_choice<W: Write, F: Face>(out: &mut W, face: &F, question: Question) -> io::Result<()> {
-    let key = question.key;
-    let target = question.target;
-    write!(
-        out,
-        "glyph {} {} target {target}: ",
-        key.glyph,
-        axis_word(key.axis)
-    )?;
-    match choose(face, key, u64::from(target)) {
-        Ok(Ok(sign)) => {
-            print_sign(out, sign)?;
-            print_pieces(out, face, key, sign)
-        }
-        Ok(Err(Missing::Unknown)) => writeln!(out, "unknown"),
-        Ok(Err(Missing::NothingFits)) => writeln!(out, "nothing fits"),
+// What a face says of a key.
+fn print_key<W: Write, F: Face>(out: &mut W, face: &F, key: Key) -> io::Result<()> {
+    write!(out, "glyph {} {}: ", key.glyph, axis_word(key.axis))?;
+    match face.look(key) {
+        Ok(None) => writeln!(out, "unknown"),
+        Ok(Some(look)) => print_construction(out, face, key, look),
         Err(fault) => print_fault(out, fault),
     }
 }
@@ -86,7 +100,7 @@ pub(crate) fn answer_lines<W: Write, F: Face>(
         count += 1;
         write!(out, "line {count}: ")?;
         match question(line) {
-            Ok(question) => print_choice(out, face, question)?,
+            Ok(key) => print_key(out, face, key)?,
             Err(bad) => writeln!(out, "{bad}")?,
         }
         rest = after;

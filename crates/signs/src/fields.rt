@@ -1,6 +1,6 @@
 ghost use Rattle.std.specs.Prelude.{◌≡◌};
-ghost use Rattle.signs.specs.Fields.{two_fields, three_fields};
-ghost use Rattle.signs.specs.Views.{viewed, viewed_three};
+ghost use Rattle.signs.specs.Fields.{two_fields};
+ghost use Rattle.signs.specs.Views.{viewed};
 
 use text::cut;
 
@@ -18,15 +18,4 @@ pub(crate) fn two_fields(line: &[u8]) -> Option<(&[u8], &[u8])>
         return None;
     }
     Some((front, back))
-}
-
-// The fields of a line that has three; none of any other.
-pub(crate) fn three_fields(line: &[u8]) -> Option<(&[u8], &[u8], &[u8])>
-    ensures { viewed_three result ≡ three_fields line.now }
-{
-    let (front, Some(rest)) = cut(line, TAB) else {
-        return None;
-    };
-    let (middle, back) = two_fields(rest)?;
-    Some((front, middle, back))
 }

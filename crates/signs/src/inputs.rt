@@ -2,6 +2,7 @@ ghost use Rattle.std.specs.Prelude.{◌≤◌, IfOk, vec_len};
 
 use crate::refusals::Refused;
 use crate::stops::Stop;
+use anyhow::anyhow;
 use std::alloc::Global;
 use std::io::{ErrorKind, Read};
 use std::{fs, io};
@@ -10,11 +11,8 @@ use std::{fs, io};
 const MOST_BYTES: usize = 65_536;
 
 // The message names the input.
-fn unread(heap: Global, name: &'static str, error: io::Error) -> Stop {
-    match format!(in heap; "{name}: {error}") {
-        Ok(message) => Stop::Failed(message.into()),
-        Err(full) => Stop::Failed(full.into()),
-    }
+fn unread(name: &'static str, error: io::Error) -> Stop {
+    Stop::Failed(anyhow!("{name}: {error}"))
 }
 
 // All bytes of an input. At most one more is read than it may have, so that none is read without end.
@@ -23,7 +21,7 @@ fn read_bounded<R: Read + Drop>(heap: Global, name: &'static str, input: R) -> R
 {
     let mut bytes = Vec::new(heap);
     if let Err(error) = input.take(MOST_BYTES as u64 + 1).read_to_end(&mut bytes) {
-        return Err(unread(heap, name, error));
+        return Err(unread(name, error));
     }
     if bytes.len() > MOST_BYTES {
         return Err(Stop::Refused(Refused::too_long(name)));
@@ -38,7 +36,7 @@ pub(crate) fn read_table(rt: &HostRuntime, name: &'static str) -> Result<Vec<u8>
     match fs::open(rt, name) {
         Ok(file) => read_bounded(rt.alloc(), name, file),
         Err(error) if error.kind() == ErrorKind::NotFound => Ok(Vec::new(rt.alloc())),
-        Err(error) => Err(unread(rt.alloc(), name, error)),
+        Err(error) => Err(unread(name, error)),
     }
 }
 

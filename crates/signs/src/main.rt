@@ -1,4 +1,6 @@
-// Prints which sign would be taken for a glyph at a target.
+// Prints what a font offers for a glyph.
+#![tactic(auto)]
+
 mod answers;
 mod fields;
 mod inputs;
@@ -51,15 +53,12 @@ fn run(rt: &HostRuntime) -> Result<(), Stop> {
 }
 
 // A refusal is an answer, and so is what is wrong with the first line: it is printed, and the program ends as it should.
-// An error is told, and fails it.
+// An error fails it, and is told as it ends.
 fn end_early(rt: &HostRuntime, stop: Stop) -> anyhow::Result<()> {
     match stop {
         Stop::Refused(refused) => println!(rt; "{refused}")?,
         Stop::NoPile(bad) => println!(rt; "line 1: {bad}")?,
-        Stop::Failed(error) => {
-            eprintln!(rt; "signs: {error}")?;
-            return Err(error);
-        }
+        Stop::Failed(error) => return Err(error),
     }
     Ok(())
 }

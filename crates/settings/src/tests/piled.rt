@@ -28,7 +28,7 @@ const OF_SAMPLE: &str =
 fn the_second_answers_where_the_first_knows_nothing(rt: HostRuntime) -> Result<(), Fail> {
     let whole = sample();
     let cut = &whole[0..75];
-    let other = with_word(&rt, *EVEN, 26, 41);
+    let other = with_word(*EVEN, 26, 41)?;
     for (first, second, glyph, text) in [
         (&EVEN[..], &whole[..], 40, OF_EVEN),
         (&other[..], &whole[..], 40, OF_SAMPLE),
@@ -46,7 +46,7 @@ fn the_second_answers_where_the_first_knows_nothing(rt: HostRuntime) -> Result<(
 
 #[test]
 fn the_fault_of_a_scale_goes_up_too(rt: HostRuntime) -> Result<(), Fail> {
-    let table = with_word(&rt, *EVEN, 38, 4097);
+    let table = with_word(*EVEN, 38, 4097)?;
     let scale = Scale::new(Scale::new(MathTable::new(&table, 0)?, 64), 64);
     let found = described(rt.alloc(), &Cap::new(scale, 0), EVEN_KEY)?;
     assert_eq!(rt; found.as_str(), "fault 18 at 2, layer 1, passed 1");

@@ -43,9 +43,9 @@ fn the_first_length_above_4096_is_the_fault(rt: HostRuntime) -> Result<(), Fail>
         (34, "fault 18 at 1, layer 1"),
         (10, "fault 18 at 0, layer 1"),
     ] {
-        let long_there = with_word(&rt, *EVEN, place, 4097);
+        let long_there = with_word(*EVEN, place, 4097)?;
         assert_eq!(rt; scaled_by_4096(rt.alloc(), &long_there)?.as_str(), text);
-        long_from_there = with_word(&rt, long_from_there, place, 65535);
+        long_from_there = with_word(long_from_there, place, 65535)?;
         assert_eq!(rt;
             scaled_by_4096(rt.alloc(), &long_from_there)?.as_str(),
             text

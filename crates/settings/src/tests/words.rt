@@ -1,15 +1,16 @@
-use std::process::Abort;
+use std::test::Fail;
 
 // A table with another word at a byte offset.
 pub fn with_word<const N: usize>(
-    rt: &impl Abort,
     mut table: [u8; N],
     place: usize,
     word: u16,
-) -> [u8; N] {
-    assert!(rt; place < N && place + 1 < N);
+) -> Result<[u8; N], Fail> {
+    if place >= N || place + 1 >= N {
+        return Err(Fail::new("no word of the table"));
+    }
     let [hi, lo] = word.to_be_bytes();
     table[place] = hi;
     table[place + 1] = lo;
-    table
+    Ok(table)
 }

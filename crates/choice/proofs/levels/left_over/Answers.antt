@@ -8,19 +8,19 @@ use Rattle.choice.proofs.levels.left_over.Goals as goal
 step : (most : ℕ) (xs : List ℕ) (i : ℕ) → i < length xs → filled most (drop i xs) ≡ min (get_or xs i 0) most + filled most (drop (i + 1) xs)
 step most xs i h = at_drop_more (filled most) xs i 0 h
 
-pub returns-in-err-left : goal.returns-in-err-left
-returns-in-err-left c =
+pub returns-in_err-left : goal.returns-in_err-left
+returns-in_err-left c =
     let taken = step c.args.most c.args.slacks.now c.loop-slack.slack-index c.loop-slack-test.true in
-    rw c.from-residual.ensures
+    rw c.from_residual.ensures
     (⊎_elim
     (λ (lt : c.loop-slack.left < c.share.result). omega arith)
-    (λ (ge : c.share.result ≤ c.loop-slack.left). absurd (c.in-err-left.ensures ge))
+    (λ (ge : c.share.result ≤ c.loop-slack.left). absurd (c.in_err-left.ensures ge))
     (cases_lt c.loop-slack.left c.share.result))
 
 pub loop-slack-preserved : goal.loop-slack-preserved
 loop-slack-preserved c =
     let taken = step c.args.most c.args.slacks.now c.loop-slack.slack-index c.loop-slack-test.true in
-    omega (arith, c.in-ok-left.ensures)
+    omega (arith, c.in_ok-left.ensures)
 
 pub returns : goal.returns
 returns c =

@@ -1,5 +1,5 @@
 use Rattle.std.proofs.Common.{◌≡◌, ℕ, ◌-◌, ◌/◌, ◌<◌, ◌≤◌, arith}
-use Rattle.choice.specs.Spreading.{Level, filled, level}
+use Rattle.choice.specs.Spreading.{filled, level}
 use Rattle.choice.proofs.Filling.{level_stands, level_from_filled, level_from_unfilled}
 use Rattle.choice.proofs.levels.level.Goals as goal
 

@@ -5,6 +5,6 @@ pub returns : goal.returns
 returns c =
     record {
       level = c.level-level.ensures.value;
-      lacking = left_is_lacking c.args.slacks.now c.args.excess c.left-over.result c.unwrap-or.result
-          c.level-level.ensures.value c.left-over.ensures c.unwrap-or.ensures;
+      lacking = left_is_lacking c.args.slacks.now c.args.excess c.left_over.result c.unwrap_or.result
+          c.level-level.ensures.value c.left_over.ensures c.unwrap_or.ensures;
     }

@@ -10,5 +10,5 @@ returns-then-words-whole c = all_inside c.args.table.now c.args.key c.args.words
 pub returns-else-words-whole : goal.returns-else-words-whole
 returns-else-words-whole c =
     ap Err c.fault.ensures
-    ∙ ap (λ left. Err (fault_at OutsideTable c.args.key (c.args.first + 2 * (left / 2)))) c.saturating-sub-whole.ensures
+    ∙ ap (λ left. Err (fault_at OutsideTable c.args.key (c.args.first + 2 * (left / 2)))) c.saturating_sub-whole.ensures
     ∙ first_outside c.args.table.now c.args.key c.args.words c.args.first (omega arith)

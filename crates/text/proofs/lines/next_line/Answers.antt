@@ -3,8 +3,8 @@ use Rattle.std.proofs.lemmas.List.{nil_from_length}
 use Rattle.text.proofs.Parting.{lines_of}
 use Rattle.text.proofs.lines.next_line.Goals as goal
 
-pub returns-then-is-empty : goal.returns-then-is-empty
-returns-then-is-empty c = record { lines = nil_from_length c.args.text.now (search rules); rest = tt; shorter = tt }
+pub returns-then-is_empty : goal.returns-then-is_empty
+returns-then-is_empty c = record { lines = nil_from_length c.args.text.now (search rules); rest = tt; shorter = tt }
 
 pub returns : goal.returns
 returns c =

@@ -8,17 +8,17 @@ loop-sums-preserved c = (
   omega (arith, c.in-Some.ensures.low),
   λ parts d. goes_on c.args.self c.args.limit c.args.target c.loop-sums.repeats parts d (c.loop-sums.invariant.1 parts d)
       c.in-Some.sums c.in-Some.ensures
-      (c.in-default-fitting.ensures ∙ ap (fitting_size c.args.target c.args.limit) c.span.ensures),
+      (c.in_default-fitting.ensures ∙ ap (fitting_size c.args.target c.args.limit) c.span.ensures),
 )
 
-pub returns-in-default : goal.returns-in-default
-returns-in-default c parts d =
-    ends_none c.args.self c.args.limit c.args.target c.loop-sums.repeats parts d (c.loop-sums.invariant.1 parts d) c.in-default.ensures
+pub returns-in_default : goal.returns-in_default
+returns-in_default c parts d =
+    ends_none c.args.self c.args.limit c.args.target c.loop-sums.repeats parts d (c.loop-sums.invariant.1 parts d) c.in_default.ensures
 
-pub returns-then-is-past : goal.returns-then-is-past
-returns-then-is-past c parts d =
+pub returns-then-is_past : goal.returns-then-is_past
+returns-then-is_past c parts d =
     ends_past c.args.self c.args.limit c.args.target c.loop-sums.repeats parts d (c.loop-sums.invariant.1 parts d)
-    c.in-Some.sums c.in-Some.ensures (sym c.if-is-past.ensures)
+    c.in-Some.sums c.in-Some.ensures (sym c.if-is_past.ensures)
 
 pub returns-in-Some-fitting : goal.returns-in-Some-fitting
 returns-in-Some-fitting c parts d =

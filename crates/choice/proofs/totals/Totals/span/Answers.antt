@@ -4,4 +4,4 @@ use Rattle.choice.proofs.totals.Totals.span.Goals as goal
 
 pub returns : goal.returns
 returns c parts d =
-    c.span.ensures ∙ span_at c.args.self c.args.repeats c.in-ok-at.field-0 c.in-ok-at.ensures parts d
+    c.span.ensures ∙ span_at c.args.self c.args.repeats c.in_ok-at.field-0 c.in_ok-at.ensures parts d

@@ -12,4 +12,4 @@ returns-then-fits g c =
 pub returns-else-fits : goal.returns-else-fits
 returns-else-fits g c =
     let m = g.F.Face.meaning c.args.self.now.face c.args.key in
-    looked_at_lem _ c.args.key m c.args.below c.requires _ refl ∙ ap (looked_at _ c.args.below) (sym c.judge-each.ensures)
+    looked_at_lem _ c.args.key m c.args.below c.requires _ refl ∙ ap (looked_at _ c.args.below) (sym c.judge_each.ensures)
