@@ -1,4 +1,6 @@
 // Lines, fields and numbers in any bytes.
+#![tactic(auto)]
+
 mod cuts;
 pub mod laws;
 mod lines;

@@ -25,10 +25,10 @@ fn no_numbers(rt: HostRuntime) {
 #[test]
 fn cuts_at_the_first(rt: HostRuntime) -> Result<(), Fail> {
     let (front, back) = cut(b"a\tb\tc", b'\t');
-    assert_eq!(rt; front, b"a");
-    assert_eq!(rt; back.ok_or("no tab")?, b"b\tc");
+    assert_eq!(rt; front, b"a".as_slice());
+    assert_eq!(rt; back.ok_or("no tab")?, b"b\tc".as_slice());
     let (whole, none) = cut(b"ab", b'\t');
-    assert_eq!(rt; whole, b"ab");
+    assert_eq!(rt; whole, b"ab".as_slice());
     assert!(rt; none.is_none());
     Ok(())
 }
@@ -36,11 +36,11 @@ fn cuts_at_the_first(rt: HostRuntime) -> Result<(), Fail> {
 #[test]
 fn lines_in_turn(rt: HostRuntime) -> Result<(), Fail> {
     let (first, rest) = next_line(b"a\n\nb").ok_or("no line")?;
-    assert_eq!(rt; first, b"a");
+    assert_eq!(rt; first, b"a".as_slice());
     let (second, rest) = next_line(rest).ok_or("one line")?;
-    assert_eq!(rt; second, b"");
+    assert_eq!(rt; second, b"".as_slice());
     let (third, rest) = next_line(rest).ok_or("two lines")?;
-    assert_eq!(rt; third, b"b");
+    assert_eq!(rt; third, b"b".as_slice());
     assert!(rt; next_line(rest).is_none());
     Ok(())
 }
