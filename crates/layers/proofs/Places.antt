@@ -4,7 +4,7 @@ use lib.ListN.{length-map}
 use Rattle.std.proofs.ByRecursion.{All-append, All-map, All-weaker}
 use Rattle.std.proofs.lemmas.Bool.{leb-true, ltb-true, ltb-false, ne_eqb}
 use Rattle.std.specs.Option.{option_map}
-use Rattle.std.specs.List.{AllByRecursion as All, slice_get}
+use Rattle.std.specs.List.{AllByRecursion, slice_get}
 use Rattle.face.specs.Bounds.{LARGEST, Bounded}
 use Rattle.face.specs.declared.looks.Look.{Look}
 use Rattle.face.specs.declared.parts.Part.{Part}
@@ -65,7 +65,7 @@ longest_fits k n unknown b fits = refl
 longest_fits k n (faulty f) b fits = refl
 longest_fits k n (construction c) b fits =
     let most = leb-true (k * n) LARGEST fits in
-    let short : All (λ x. x ≤ n) (lengths c) = (
+    let short : AllByRecursion (λ x. x ≤ n) (lengths c) = (
       b.least,
       All-append _ (map (λ v. v.advance) c.variants) (map (λ p. p.full) c.parts)
           (All-map _ (λ v. v.advance) c.variants b.advances)

@@ -3,7 +3,7 @@ use Rattle.std.proofs.Common.{◌≡◌, ℕ, zero, suc, ◌*◌, ◌≤◌, Boo
 use lib.ListN.{length-map}
 use Rattle.std.proofs.lemmas.Bool.{false≢true}
 use Rattle.std.specs.Option.{option_map}
-use Rattle.std.specs.List.{AllByRecursion as All, slice_get}
+use Rattle.std.specs.List.{AllByRecursion, slice_get}
 use Rattle.face.specs.declared.faults.Fault.{Fault}
 use Rattle.face.specs.declared.keys.Key.{Key}
 use Rattle.face.specs.declared.looks.Look.{Look}
@@ -44,12 +44,12 @@ module _ (k : ℕ) (key : Key) where
       (λ c is e. ap (λ o. looked (judged key o (scaled_construction k c))) e ∙ looked_judged c below is place e)
 
   -- lists whose entries come to the same one by one
-  same_entries : {X : Type 0} (f g : X → X) (xs : List X) → All (λ x. f x ≡ g x) xs → (i : ℕ) → slice_get (map f xs) i ≡ option_map g (slice_get xs i)
+  same_entries : {X : Type 0} (f g : X → X) (xs : List X) → AllByRecursion (λ x. f x ≡ g x) xs → (i : ℕ) → slice_get (map f xs) i ≡ option_map g (slice_get xs i)
   same_entries f g [] same i = refl
   same_entries f g (x ∷ xs) same zero = ap Some same.0
   same_entries f g (x ∷ xs) same (suc i) = same_entries f g xs same.1 i
 
-  same_variants : (vs : List Variant) → All (λ x. k * x ≤ LARGEST) (map (λ v. v.advance) vs) → All (λ v. scaled_variant k v ≡ variant_from k v) vs
+  same_variants : (vs : List Variant) → AllByRecursion (λ x. k * x ≤ LARGEST) (map (λ v. v.advance) vs) → AllByRecursion (λ v. scaled_variant k v ≡ variant_from k v) vs
   same_variants [] fit = tt
   same_variants (v ∷ vs) fit =
       let advance = whole k v.advance fit.0 in
@@ -61,11 +61,11 @@ module _ (k : ℕ) (key : Key) where
       let end = mul-le-mul_left k p.ends in
       same_part (scaled_part k p) (part_from k p) refl refl (omega arith) (omega arith) (whole k p.full fits) refl
 
-  same_parts : (ps : List Part) → All (λ x. k * x ≤ LARGEST) (map (λ p. p.full) ps) → All (λ p. scaled_part k p ≡ part_from k p) ps
+  same_parts : (ps : List Part) → AllByRecursion (λ x. k * x ≤ LARGEST) (map (λ p. p.full) ps) → AllByRecursion (λ p. scaled_part k p ≡ part_from k p) ps
   same_parts [] fit = tt
   same_parts (p ∷ ps) fit = (part_whole p fit.0, same_parts ps fit.1)
 
-  entries_of : (m above : Meaning) → All (λ x. k * x ≤ LARGEST) (map (λ v. v.advance) (variants_of m)) → All (λ x. k * x ≤ LARGEST) (map (λ p. p.full) (parts_of m))
+  entries_of : (m above : Meaning) → AllByRecursion (λ x. k * x ≤ LARGEST) (map (λ v. v.advance) (variants_of m)) → AllByRecursion (λ x. k * x ≤ LARGEST) (map (λ p. p.full) (parts_of m))
       → variants_of above ≡ map (scaled_variant k) (variants_of m) → parts_of above ≡ map (scaled_part k) (parts_of m) → Entries k m above true
   entries_of m above advances fulls variants parts =
       record {

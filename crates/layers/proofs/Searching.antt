@@ -2,14 +2,14 @@
 use Rattle.std.proofs.Common.{◌≡◌, ℕ, zero, suc, ◌+◌, ◌*◌, ◌≤◌, true, false, cond, leb, List, [], ◌∷◌, length, drop, Some, None, sym, refl, ap, ◌∙◌, arith}
 use Rattle.std.proofs.lemmas.List.{at_drop_all}
 use Rattle.std.proofs.lemmas.Bool.{le-leb}
-use Rattle.std.specs.List.{AllByRecursion as All, slice_get}
+use Rattle.std.specs.List.{AllByRecursion, slice_get}
 use Rattle.face.specs.Bounds.{LARGEST}
 use Rattle.layers.specs.Scaling.{first_too_long}
 use Rattle.face.proofs.Indexes.{none_is_not_some, nth_outside}
 
 module _ (k : ℕ) where
   -- where every length fits, none is found
-  pub all_fit_none : (from : ℕ) (xs : List ℕ) → All (λ x. k * x ≤ LARGEST) xs → first_too_long k from xs ≡ None
+  pub all_fit_none : (from : ℕ) (xs : List ℕ) → AllByRecursion (λ x. k * x ≤ LARGEST) xs → first_too_long k from xs ≡ None
   all_fit_none from [] fit = refl
   all_fit_none from (x ∷ xs) fit = rw (le-leb (k * x) LARGEST fit.0) (all_fit_none (from + 1) xs fit.1)
 

@@ -3,7 +3,7 @@ use Rattle.std.specs.Prelude.{◌≡◌, ℕ, ◌+◌, ◌*◌, ◌≤◌, min, 
 use Rattle.std.proofs.Common.{mul-le-mul_left, arith, leb-true}
 use Rattle.std.proofs.lemmas.List.{length-map}
 use Rattle.std.proofs.ByRecursion.{All-weaker}
-use Rattle.std.specs.List.{AllByRecursion as All}
+use Rattle.std.specs.List.{AllByRecursion}
 use Rattle.face.specs.declared.keys.Key.{Key}
 use Rattle.face.specs.Bounds.{LARGEST, Within, Bounded}
 use Rattle.face.specs.Meaning.{Meaning, unknown, faulty, construction, Construction}
@@ -11,7 +11,7 @@ use Rattle.layers.specs.Layers.{raised, fallen_back, capped}
 use Rattle.layers.specs.Scaling.{scaled_variant, scaled_part, scaled_construction, lengths, first_too_long, judged, scaled}
 
 -- of two lists, one after the other
-all_parted : {X : Type 0} (P : X → Type 0) (xs ys : List X) → All P (xs ++ ys) → All P xs × All P ys
+all_parted : {X : Type 0} (P : X → Type 0) (xs ys : List X) → AllByRecursion P (xs ++ ys) → AllByRecursion P xs × AllByRecursion P ys
 all_parted P [] ys all = (tt, all)
 all_parted P (x ∷ xs) ys all =
     let rest = all_parted P xs ys all.1 in
@@ -50,14 +50,14 @@ none_head : (b : Bool) (place : ℕ) (rest : Option ℕ) → cond b rest (Some p
 none_head true place rest e = (refl, e)
 none_head false place rest e = let z : ◌≡◌ {A = ℕ} 0 1 = cc in absurd (omega arith)
 
-pub all_fit : (k place : ℕ) (xs : List ℕ) → first_too_long k place xs ≡ None → All (λ x. k * x ≤ LARGEST) xs
+pub all_fit : (k place : ℕ) (xs : List ℕ) → first_too_long k place xs ≡ None → AllByRecursion (λ x. k * x ≤ LARGEST) xs
 all_fit k place [] e = tt
 all_fit k place (x ∷ xs) e =
     let h = none_head (nat_le (k * x) LARGEST) place (first_too_long k (place + 1) xs) e in
     (leb-true (k * x) LARGEST h.0, all_fit k (place + 1) xs h.1)
 
 -- lengths that fit, multiplied
-all_times : {X : Type 0} (f : X → ℕ) (by : X → X) (k n : ℕ) → ((x : X) → f (by x) ≡ k * f x) → (xs : List X) → All (λ x. f x ≤ n) xs → All (λ x. k * x ≤ LARGEST) (map f xs) → All (λ x. f x ≤ min (k * n) LARGEST) (map by xs)
+all_times : {X : Type 0} (f : X → ℕ) (by : X → X) (k n : ℕ) → ((x : X) → f (by x) ≡ k * f x) → (xs : List X) → AllByRecursion (λ x. f x ≤ n) xs → AllByRecursion (λ x. k * x ≤ LARGEST) (map f xs) → AllByRecursion (λ x. f x ≤ min (k * n) LARGEST) (map by xs)
 all_times f by k n is [] short fit = tt
 all_times f by k n is (x ∷ xs) short fit =
     (omega (arith, is x, mul-le-mul_left k short.0, fit.0), all_times f by k n is xs short.1 fit.1)
@@ -65,8 +65,8 @@ all_times f by k n is (x ∷ xs) short fit =
 -- the lengths of a construction that fit, by their kinds
 pub record Fitting (k : ℕ) (c : Construction) : Type 0 where
   pub least : k * c.least ≤ LARGEST
-  pub advances : All (λ x. k * x ≤ LARGEST) (map (λ v. v.advance) c.variants)
-  pub fulls : All (λ x. k * x ≤ LARGEST) (map (λ p. p.full) c.parts)
+  pub advances : AllByRecursion (λ x. k * x ≤ LARGEST) (map (λ v. v.advance) c.variants)
+  pub fulls : AllByRecursion (λ x. k * x ≤ LARGEST) (map (λ p. p.full) c.parts)
 
 pub fitting : (k : ℕ) (c : Construction) → first_too_long k 0 (lengths c) ≡ None → Fitting k c
 fitting k c e =

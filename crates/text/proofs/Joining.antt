@@ -1,6 +1,6 @@
 -- What was parted is joined again, and what was joined is parted.
 use Rattle.std.proofs.Common.{◌≡◌, ℕ, Bool, true, false, cond, eqb, List, [], ◌∷◌, ◌++◌, Some, None, Option, sym, refl, ap, ◌∙◌}
-use Rattle.std.specs.List.{AllByRecursion as All}
+use Rattle.std.specs.List.{AllByRecursion}
 use Rattle.std.proofs.lemmas.Bool.{eqb-true, eqb-false, eq-eqb, ne_eqb}
 use Rattle.text.specs.Cuts.{before, after}
 use Rattle.text.specs.Lines.{onto, lines}
@@ -38,7 +38,7 @@ after_without s (b ∷ bs) w = rw (ne_eqb b s w.0, after_without s bs w.1)
 joined_onto : (b : ℕ) (each : List (List ℕ)) (line : List ℕ) (rest : List (List ℕ)) → each ≡ line ∷ rest → joined (onto b each) ≡ b ∷ joined each
 joined_onto b each line rest e = rw e
 
-without_onto : (b : ℕ) (each : List (List ℕ)) → (b ≡ 10 → ⊥) → All (Without 10) each → All (Without 10) (onto b each)
+without_onto : (b : ℕ) (each : List (List ℕ)) → (b ≡ 10 → ⊥) → AllByRecursion (Without 10) each → AllByRecursion (Without 10) (onto b each)
 without_onto b [] n w = ((n, tt {0}), tt {0})
 without_onto b (line ∷ rest) n w = ((n, w.0), w.1)
 
@@ -47,15 +47,15 @@ lines_joined_again_are_the_text [] = (refl, tt {0})
 lines_joined_again_are_the_text (b ∷ []) = by (eqb b 10) (eqb-true b 10) (eqb-false b 10)
   where
     by : (t : Bool) → (t ≡ true → b ≡ 10) → (t ≡ false → b ≡ 10 → ⊥)
-        → (joined (cond t ([] ∷ []) ((b ∷ []) ∷ [])) ≡ cond t (b ∷ []) (b ∷ 10 ∷ [])) × All (Without 10) (cond t ([] ∷ []) ((b ∷ []) ∷ []))
+        → (joined (cond t ([] ∷ []) ((b ∷ []) ∷ [])) ≡ cond t (b ∷ []) (b ∷ 10 ∷ [])) × AllByRecursion (Without 10) (cond t ([] ∷ []) ((b ∷ []) ∷ []))
     by true is no' = (ap (λ x. x ∷ []) (sym (is refl)), (tt {0}, tt {0}))
     by false is no' = (refl, ((no' refl, tt {0}), tt {0}))
 lines_joined_again_are_the_text (b ∷ d ∷ ds) =
     by (eqb b 10) (eqb-true b 10) (eqb-false b 10) (lines (d ∷ ds)) (first_line d ds) (lines_joined_again_are_the_text (d ∷ ds))
   where
     by : (t : Bool) → (t ≡ true → b ≡ 10) → (t ≡ false → b ≡ 10 → ⊥)
-        → (each : List (List ℕ)) → {line : List ℕ} {rest : List (List ℕ)} → each ≡ line ∷ rest → (joined each ≡ ended (d ∷ ds)) × All (Without 10) each
-        → (joined (cond t ([] ∷ each) (onto b each)) ≡ b ∷ ended (d ∷ ds)) × All (Without 10) (cond t ([] ∷ each) (onto b each))
+        → (each : List (List ℕ)) → {line : List ℕ} {rest : List (List ℕ)} → each ≡ line ∷ rest → (joined each ≡ ended (d ∷ ds)) × AllByRecursion (Without 10) each
+        → (joined (cond t ([] ∷ each) (onto b each)) ≡ b ∷ ended (d ∷ ds)) × AllByRecursion (Without 10) (cond t ([] ∷ each) (onto b each))
     by true is no' each e p = (ap (λ x. x ∷ joined each) (sym (is refl)) ∙ ap (λ xs. b ∷ xs) p.0, (tt {0}, p.1))
     by false is no' each e p = (joined_onto b each _ _ e ∙ ap (λ xs. b ∷ xs) p.0, without_onto b each (no' refl) p.1)
 
