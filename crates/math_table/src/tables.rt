@@ -2,7 +2,7 @@ ghost use Rattle.std.specs.Prelude.{◌≡◌, ℕ, ◌≤◌, IfSome, IfOk};
 ghost use Rattle.face.specs.Meaning.{looked, variant_at, part_at};
 ghost use Rattle.math_table.specs.Limits.{word_largest, bounded_math};
 ghost use Rattle.math_table.specs.Making.{well_formed, Making, meant};
-ghost use Rattle.math_table.specs.Reading.{LARGEST_WORD};
+ghost use Rattle.math_table.specs.Reading.{LARGEST_WORD as the_largest_word};
 ghost use Rattle.math_table.specs.Shapes.{shape_look, shape_variant, shape_part, found_variant, found_part};
 
 use crate::entries::{part_at, variant_at};
@@ -70,7 +70,7 @@ impl<'a> Face for MathTable<'a> {
 
     ghost parts = { found_part };
 
-    ghost reach = { λ s. LARGEST_WORD };
+    ghost reach = { λ s. the_largest_word };
 
     ghost largest = { λ s. word_largest };
 

@@ -21,9 +21,9 @@ axis_number Upright = 0
 axis_number Level = 1
 
 -- a key as it is written: glyph, tab, axis
-abbrev pub writtenKey : Key → List ℕ
-writtenKey key = written key.glyph ++ 9 ∷ written (axis_number key.axis)
+abbrev pub written_key : Key → List ℕ
+written_key key = written key.glyph ++ 9 ∷ written (axis_number key.axis)
 
 -- every key can be asked about
 abbrev pub AQuestionIsReadAsItIsWritten : Type 0
-AQuestionIsReadAsItIsWritten = (key : Key) → key.glyph ≤ 65535 → asked (writtenKey key) ≡ Ok key
+AQuestionIsReadAsItIsWritten = (key : Key) → key.glyph ≤ 65535 → asked (written_key key) ≡ Ok key
