@@ -34,6 +34,7 @@ fn left_over(slacks: &[u32], most: u32, excess: u64) -> Option<u64>
 // The largest number, no larger than the largest slack, for which the joints' smaller of slack and number add up to
 // at most the excess. It is sought by halving: 25 steps through the slacks where none is above 16,777,216.
 // Any slacks and any excess have one.
+#[tactic(auto, using(crate::proofs::Filling::level_stands, crate::proofs::Filling::level_from_filled, crate::proofs::Filling::level_from_unfilled))]
 pub fn level(slacks: &[u32], excess: u64) -> u32
     ensures value { result ≡ the_level slacks.now excess }
     ensures rule { Level slacks.now excess result }
