@@ -3,3 +3,4 @@ pub mod Clamping
 pub mod Faults
 pub mod Finding
 pub mod Meaning
+pub mod Offers

@@ -8,6 +8,7 @@ pub mod faces;
 pub mod faults;
 pub mod keys;
 pub mod looks;
+pub mod offers;
 pub mod parts;
 pub mod variants;
 
@@ -16,5 +17,6 @@ pub use faces::Face;
 pub use faults::{Cause, Fault, Layer};
 pub use keys::{Axis, Key};
 pub use looks::Look;
+pub use offers::Offer;
 pub use parts::Part;
 pub use variants::Variant;
