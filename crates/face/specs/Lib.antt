@@ -1,3 +1,4 @@
+pub mod Axes
 pub mod Bounds
 pub mod Clamping
 pub mod Faults
