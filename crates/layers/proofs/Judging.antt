@@ -8,8 +8,7 @@ use Rattle.face.specs.Meaning.{Construction}
 use Rattle.layers.specs.Laws.{EachLengthHasAPlace, WhatFitsIsScaled, TheFirstLengthTooLongIsTheFault}
 use Rattle.layers.specs.Scaling.{scaled_construction, lengths, first_too_long, judged}
 use Rattle.face.proofs.Indexes.{none_is_not_some, nth_inside, all_from_nth}
-use Rattle.layers.proofs.Places.{variant_length, part_length}
-use Rattle.layers.proofs.Searching.{all_fit_none}
+use Rattle.layers.proofs.Places.{variant_length, part_length, all_fit_none}
 
 module _ (k : ℕ) where
   first_is_found : (from place x : ℕ) (xs : List ℕ) → slice_get xs place ≡ Some x → LARGEST < k * x → ((q y : ℕ) → q < place → slice_get xs q ≡ Some y → k * y ≤ LARGEST)

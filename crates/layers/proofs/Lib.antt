@@ -2,5 +2,4 @@ pub mod Entries
 pub mod Judging
 pub mod Places
 pub mod ScaledAnswers
-pub mod Searching
 pub mod Unchanging

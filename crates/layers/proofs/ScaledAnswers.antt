@@ -3,6 +3,7 @@ use Rattle.std.proofs.Common.{◌≡◌, ℕ, zero, suc, ◌*◌, ◌≤◌, Boo
 use lib.ListN.{length-map}
 use Rattle.std.proofs.lemmas.Bool.{false≢true}
 use Rattle.std.specs.Option.{option_map}
+use Rattle.std.specs.Result.{result_map_both}
 use Rattle.std.specs.List.{AllByRecursion, slice_get}
 use Rattle.face.specs.declared.faults.Fault.{Fault}
 use Rattle.face.specs.declared.keys.Key.{Key}
@@ -10,10 +11,10 @@ use Rattle.face.specs.declared.looks.Look.{Look}
 use Rattle.face.specs.declared.parts.Part.{Part}
 use Rattle.face.specs.declared.variants.Variant.{Variant}
 use Rattle.face.specs.Bounds.{LARGEST}
-use Rattle.face.specs.Meaning.{Meaning, unknown, faulty, construction, Construction, summary, looked, variants_of, parts_of}
-use Rattle.face.proofs.Looking.{look_finds}
+use Rattle.face.specs.Faults.{passed_up}
+use Rattle.face.specs.Meaning.{Meaning, unknown, faulty, construction, Construction, looked, variants_of, parts_of}
 use Rattle.face.proofs.SameParts.{same_part}
-use Rattle.layers.specs.Answers.{times, verdict, looked_at, variant_from, part_from, lengths_of, Entries}
+use Rattle.layers.specs.Answers.{times, judged_below, look_from, variant_from, part_from, lengths_of, Entries}
 use Rattle.layers.specs.Limits.{fitting}
 use Rattle.layers.specs.Scaling.{scaled_variant, scaled_part, scaled_construction, lengths, first_too_long, judged, scaled}
 
@@ -28,20 +29,20 @@ whole : (k x : ℕ) → k * x ≤ LARGEST → k * x ≡ times k x
 whole k x fits = omega arith
 
 module _ (k : ℕ) (key : Key) where
-  looked_judged : (c : Construction) (below : Look) → summary c ≡ below → (place : Option ℕ) → first_too_long k 0 (lengths c) ≡ place
-      → looked (judged key place (scaled_construction k c)) ≡ looked_at k below (verdict key place)
-  looked_judged c below is (Some place) e = refl
-  looked_judged c below is None e =
+  looked_judged : (c : Construction) (place : Option ℕ) → first_too_long k 0 (lengths c) ≡ place
+      → looked (judged key place (scaled_construction k c)) ≡ result_map_both (option_map (look_from k)) (λ f. f) (looked (judged key place c))
+  looked_judged c (Some place) e = refl
+  looked_judged c None e =
       let least = whole k c.least (fitting k c e).least in
       let variants = length-map c.variants (scaled_variant k) in
       let parts = length-map c.parts (scaled_part k) in
-      rw (← is) (λ i. Ok (Some (record { limit = times k c.limit; least = least i; variants = variants i; parts = parts i })))
+      λ i. Ok (Some (record { limit = times k c.limit; least = least i; variants = variants i; parts = parts i }))
 
-  pub looked_at_lem : (m : Meaning) (below : Look) → looked m ≡ Ok (Some below) → (place : Option ℕ) → first_too_long k 0 (lengths_of m) ≡ place
-      → looked (scaled k key m) ≡ looked_at k below (verdict key place)
-  looked_at_lem m below known place =
-      look_finds (λ m. first_too_long k 0 (lengths_of m) ≡ place → looked (scaled k key m) ≡ looked_at k below (verdict key place)) m below known
-      (λ c is e. ap (λ o. looked (judged key o (scaled_construction k c))) e ∙ looked_judged c below is place e)
+  -- look under a scale makes of what is judged below a larger look
+  pub looked_scaled : (m : Meaning) → looked (scaled k key m) ≡ result_map_both (option_map (look_from k)) (λ f. f) (judged_below k key m)
+  looked_scaled unknown = refl
+  looked_scaled (faulty f) = refl
+  looked_scaled (construction c) = looked_judged c (first_too_long k 0 (lengths c)) refl
 
   -- lists whose entries come to the same one by one
   same_entries : {X : Type 0} (f g : X → X) (xs : List X) → AllByRecursion (λ x. f x ≡ g x) xs → (i : ℕ) → slice_get (map f xs) i ≡ option_map g (slice_get xs i)
@@ -85,7 +86,13 @@ module _ (k : ℕ) (key : Key) where
   judged_none c None e = refl
   judged_none c (Some place) e = absurd (false≢true e)
 
-  pub none_too_long : (m : Meaning) → is_known (looked (scaled k key m)) ≡ true → first_too_long k 0 (lengths_of m) ≡ None
+  pub none_too_long : (m : Meaning) → is_known (judged_below k key m) ≡ true → first_too_long k 0 (lengths_of m) ≡ None
   none_too_long unknown e = refl
   none_too_long (faulty f) e = refl
-  none_too_long (construction c) e = judged_none (scaled_construction k c) (first_too_long k 0 (lengths c)) e
+  none_too_long (construction c) e = judged_none c (first_too_long k 0 (lengths c)) e
+
+  -- where every length fits, the scale finds below what look tells there
+  pub looked_below : (m : Meaning) → first_too_long k 0 (lengths_of m) ≡ None → judged_below k key m ≡ result_map_both (λ l. l) passed_up (looked m)
+  looked_below unknown fits = refl
+  looked_below (faulty f) fits = refl
+  looked_below (construction c) fits = ap (λ o. looked (judged key o c)) fits

@@ -1,5 +1,5 @@
 -- No construction that a layer offers is too large. This is a proof: nothing in it has to be believed.
-use Rattle.std.specs.Prelude.{◌≡◌, ℕ, ◌+◌, ◌*◌, ◌≤◌, min, max, Bool, true, false, cond, List, [], ◌∷◌, ◌++◌, map, Some, None, Option, nat_le, refl}
+use Rattle.std.specs.Prelude.{◌≡◌, ℕ, ◌+◌, ◌*◌, ◌≤◌, min, max, Bool, true, false, cond, not, List, [], ◌∷◌, ◌++◌, map, Some, None, Option, nat_le, refl}
 use Rattle.std.proofs.Common.{mul-le-mul_left, arith, leb-true}
 use Rattle.std.proofs.lemmas.List.{length-map}
 use Rattle.std.proofs.ByRecursion.{All-weaker}
@@ -46,7 +46,7 @@ pub longer_largest : (n k : ℕ) → n ≤ LARGEST → k ≤ LARGEST → max n k
 longer_largest n k a b = omega arith
 
 -- a search that finds nothing: the head fits, and nothing is found after it
-none_head : (b : Bool) (place : ℕ) (rest : Option ℕ) → cond b rest (Some place) ≡ None → (b ≡ true) × (rest ≡ None)
+none_head : (b : Bool) (place : ℕ) (rest : Option ℕ) → cond (not b) (Some place) rest ≡ None → (b ≡ true) × (rest ≡ None)
 none_head true place rest e = (refl, e)
 none_head false place rest e = let z : ◌≡◌ {A = ℕ} 0 1 = cc in absurd (omega arith)
 

@@ -1,5 +1,6 @@
 -- What scaling by k means.
-use Rattle.std.specs.Prelude.{ℕ, ◌+◌, ◌*◌, min, cond, List, [], ◌∷◌, ◌++◌, map, Some, None, Option, nat_le}
+use Rattle.std.specs.Prelude.{ℕ, ◌*◌, min, not, List, ◌∷◌, ◌++◌, map, Some, None, Option, nat_le}
+use Rattle.std.specs.List.{position_from}
 use Rattle.std.proofs.Common.{mul-le-mul_left}
 use Rattle.face.specs.declared.faults.Cause.TheVariants.{ScaledLength}
 use Rattle.face.specs.declared.faults.Fault.{Fault}
@@ -43,8 +44,7 @@ lengths c = c.least ∷ (map (λ v. v.advance) c.variants ++ map (λ p. p.full) 
 
 -- the place of the first length that is too long when multiplied, where the list begins at `place`
 abbrev pub first_too_long : ℕ → ℕ → List ℕ → Option ℕ
-first_too_long k place [] = None
-first_too_long k place (x ∷ xs) = cond (nat_le (k * x) LARGEST) (first_too_long k (place + 1) xs) (Some place)
+first_too_long k place xs = position_from (λ x. not (nat_le (k * x) LARGEST)) place xs
 
 -- the fault that a scale finds
 abbrev pub too_long_at : Key → ℕ → Fault

@@ -1,11 +1,8 @@
-ghost use Rattle.std.specs.Prelude.{◌≡◌, ℕ, min};
+ghost use Rattle.std.specs.Prelude.{◌≡◌, min};
 ghost use Rattle.face.specs.Bounds.{LARGEST as the_largest};
-ghost use Rattle.face.specs.Finding.{told};
-ghost use Rattle.face.specs.Meaning.{variant_at, part_at};
 ghost use Rattle.layers.specs.Layers.{capped};
 ghost use Rattle.layers.specs.Limits.{bounded_capped};
 
-use crate::passing::passed_up;
 use face::{Face, Fault, Key, LARGEST, Look, Part, Variant};
 
 // Lowers the limit of a face where it is larger.
@@ -26,14 +23,6 @@ impl<F: Face> Cap<F> {
             most: most.min(LARGEST),
         }
     }
-
-    // A cap changes no entry: they are told by what is found below.
-    fn found_below(&self, key: Key) -> Option<F::Found>
-        ensures variants { (i : ℕ) → variant_at (capped self.now.most (F.Face.meaning self.now.face key)) i ≡ told (F.Face.variants self.now.face) i result }
-        ensures parts { (i : ℕ) → part_at (capped self.now.most (F.Face.meaning self.now.face key)) i ≡ told (F.Face.parts self.now.face) i result }
-    {
-        self.face.find(key)
-    }
 }
 
 impl<F: Face> Face for Cap<F> {
@@ -52,17 +41,17 @@ impl<F: Face> Face for Cap<F> {
     ghost bounded = { λ s key. bounded_capped s.most (F.Face.reach s.face) (F.Face.meaning s.face key) (F.Face.bounded s.face key) };
 
     fn look(&self, key: Key) -> Result<Option<Look>, Fault> {
-        let Some(below) = passed_up(self.face.look(key))? else {
-            return Ok(None);
-        };
-        Ok(Some(Look {
+        let below = self.face.look(key).map_err(Fault::passed_up)?;
+        Ok(below.map(|below| Look {
             limit: below.limit.min(self.most),
             ..below
         }))
     }
 
+    // A cap changes no entry: they are told by what is found below.
+    #[tactic(auto, using(crate::proofs::Entries::capped_variants, crate::proofs::Entries::capped_parts))]
     fn find(&self, key: Key) -> Option<F::Found> {
-        self.found_below(key)
+        self.face.find(key)
     }
 
     fn variant_of(&self, found: F::Found, index: u16) -> Option<Variant> {

@@ -3,7 +3,6 @@ ghost use Rattle.layers.specs.Layers.{fallen_back};
 ghost use Rattle.layers.specs.declared.fallback.FoundIn.TheVariants.{First, Second};
 ghost use Rattle.layers.specs.Limits.{longer_largest, bounded_fallen_back};
 
-use crate::passing::passed_up;
 use face::{Face, Fault, Key, Look, Part, Variant};
 
 // Answers from its first face, and from its second where the first says unknown.
@@ -37,9 +36,9 @@ impl<A: Face, B: Face> Face for Fallback<A, B> {
 
     // A fault of the first face is never hidden: it is passed up before the second is asked.
     fn look(&self, key: Key) -> Result<Option<Look>, Fault> {
-        match passed_up(self.first.look(key))? {
+        match self.first.look(key).map_err(Fault::passed_up)? {
             Some(look) => Ok(Some(look)),
-            None => passed_up(self.second.look(key)),
+            None => self.second.look(key).map_err(Fault::passed_up),
         }
     }
 

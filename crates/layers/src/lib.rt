@@ -4,7 +4,6 @@
 pub mod cap;
 pub mod fallback;
 pub mod laws;
-mod passing;
 pub mod scale;
 
 pub use cap::Cap;

@@ -1,4 +1,3 @@
-mod entries;
 mod judging;
 mod products;
 
@@ -8,10 +7,7 @@ ghost use Rattle.layers.specs.Answers.{times as product, variant_from, part_from
 ghost use Rattle.layers.specs.Limits.{times_largest, bounded_scaled};
 ghost use Rattle.layers.specs.Scaling.{scaled};
 
-use crate::passing::passed_up;
-use entries::{scaled_part, scaled_variant};
 use face::{Face, Fault, Key, Look, Part, Variant};
-use products::times;
 
 // The largest factor of a scale.
 const MOST: u32 = 64;
@@ -52,15 +48,8 @@ impl<F: Face> Face for Scale<F> {
     ghost bounded = { λ s key. bounded_scaled s.by (F.Face.reach s.face) key (F.Face.meaning s.face key) (F.Face.bounded s.face key) };
 
     fn look(&self, key: Key) -> Result<Option<Look>, Fault> {
-        let Some(below) = passed_up(self.face.look(key))? else {
-            return Ok(None);
-        };
-        self.judge(key, below)?;
-        Ok(Some(Look {
-            limit: times(self.by, below.limit),
-            least: times(self.by, below.least),
-            ..below
-        }))
+        let below = self.judged(key)?;
+        Ok(below.map(|below| self.scaled_look(below)))
     }
 
     fn find(&self, key: Key) -> Option<F::Found> {
@@ -72,14 +61,16 @@ impl<F: Face> Face for Scale<F> {
     }
 
     fn variant_of(&self, found: F::Found, index: u16) -> Option<Variant> {
-        scaled_variant(self.by, self.face.variant_of(found, index))
+        let below = self.face.variant_of(found, index)?;
+        Some(self.scaled_variant(below))
     }
 
     fn part_of(&self, found: F::Found, index: u16) -> Option<Part> {
-        scaled_part(self.by, self.face.part_of(found, index))
+        let below = self.face.part_of(found, index)?;
+        Some(self.scaled_part(below))
     }
 
     fn longest(&self) -> u32 {
-        times(self.by, self.face.longest())
+        self.times(self.face.longest())
     }
 }

@@ -1,76 +1,57 @@
-ghost use Rattle.std.specs.Prelude.{◌≡◌, ◌+◌, ◌≤◌, Some, Ok};
-ghost use Rattle.face.specs.Finding.{told};
-ghost use Rattle.face.specs.Meaning.{looked};
-ghost use Rattle.layers.specs.Answers.{looked_at, lengths_of, length_at, verdict, Entries};
-ghost use Rattle.layers.specs.Scaling.{first_too_long, scaled, too_long_at};
+// Which lengths are too long when they are scaled.
+ghost use Rattle.std.specs.Prelude.{◌≡◌, ◌≤◌, IfSome};
+ghost use Rattle.layers.specs.Answers.{verdict, judged_below, Entries};
+ghost use Rattle.layers.specs.Scaling.{first_too_long, lengths, scaled};
 
 use crate::scale::Scale;
-use crate::scale::products::fits;
-use face::{Cause, Face, Fault, Key, Layer, Look};
-
-// The fault of a length that is too long when scaled.
-fn too_long(key: Key, place: u32) -> Fault
-    ensures { result ≡ too_long_at key place }
-{
-    Fault {
-        cause: Cause::ScaledLength,
-        layer: Layer::Scale,
-        place,
-        glyph: key.glyph,
-        passed: 0,
-    }
-}
+use face::{Cause, Face, Fault, Key, Layer, Look, Offer, Part, Variant};
+use std::iter;
 
 impl<F: Face> Scale<F> {
-    // The length at a place: the least overlap, then the variants' advances, then the parts' full advances.
-    fn length_at(&self, below: Look, found: Option<F::Found>, place: u32) -> Option<u32>
-        requires { place ≤ below.variants + below.parts }
-        ensures { result ≡ length_at below (λ i. told (F.Face.variants self.now.face) i found) (λ i. told (F.Face.parts self.now.face) i found) place }
+    // The place of the first length that is too long when scaled: the least overlap, then the variants' advances, then
+    // the parts' full advances.
+    fn first_too_long(&self, offer: &Offer<F>) -> Option<usize>
+        ensures first { result ≡ first_too_long self.now.by 0 (lengths offer.now) }
+        ensures small { IfSome result (λ place. place ≤ 131070) }
     {
-        if place == 0 {
-            return Some(below.least);
-        }
-        let index = place - 1;
-        let variants = u32::from(below.variants);
-        if index < variants {
-            Some(self.face.variant_of(found?, index as u16)?.advance)
-        } else {
-            Some(self.face.part_of(found?, (index - variants) as u16)?.full)
+        let advances = offer.entries::<Variant>().map(|variant| variant.advance);
+        let fulls = offer.entries::<Part>().map(|part| part.full);
+        iter::once(offer.look().least)
+            .chain(advances)
+            .chain(fulls)
+            .position(|length| !self.fits(length))
+    }
+
+    // The first length that is too long when scaled is a fault.
+    fn judge(&self, key: Key, offer: &Offer<F>) -> Result<(), Fault>
+        ensures { result ≡ verdict key (first_too_long self.now.by 0 (lengths offer.now)) }
+    {
+        match self.first_too_long(offer) {
+            Some(place) => Err(Fault::new(Layer::Scale, Cause::ScaledLength, key, place as u32)),
+            None => Ok(()),
         }
     }
 
-    // The first length that is too long when scaled is a fault: every length is asked for in turn.
-    fn judge_each(&self, key: Key, below: Look) -> Result<(), Fault>
-        requires { looked (F.Face.meaning self.now.face key) ≡ Ok (Some below) }
-        ensures { result ≡ verdict key (first_too_long self.now.by 0 (lengths_of (F.Face.meaning self.now.face key))) }
+    // What the face below offers, without its entries, where none of its lengths is too long when scaled.
+    // Where the longest of all fits, none is asked for.
+    pub(super) fn judged(&self, key: Key) -> Result<Option<Look>, Fault>
+        ensures { result ≡ judged_below self.now.by key (F.Face.meaning self.now.face key) }
     {
-        let found = self.face.find(key);
-        for place in 0..1 + u32::from(below.variants) + u32::from(below.parts) {
-            if let Some(length) = self.length_at(below, found, place)
-                && !fits(self.by, length)
-            {
-                return Err(too_long(key, place));
-            }
+        if self.fits(self.face.longest()) {
+            let below = self.face.look(key).map_err(Fault::passed_up)?;
+            return Ok(below);
         }
-        Ok(())
-    }
-
-    // The first length that is too long when scaled is a fault. Where the longest of all fits, none is asked for.
-    pub(super) fn judge(&self, key: Key, below: Look) -> Result<(), Fault>
-        requires { looked (F.Face.meaning self.now.face key) ≡ Ok (Some below) }
-        ensures { looked (scaled self.now.by key (F.Face.meaning self.now.face key)) ≡ looked_at self.now.by below result }
-    {
-        if fits(self.by, self.face.longest()) {
-            Ok(())
-        } else {
-            self.judge_each(key, below)
-        }
+        let Some(offer) = Offer::of(&self.face, key).map_err(Fault::passed_up)? else {
+            return Ok(None);
+        };
+        self.judge(key, &offer)?;
+        Ok(Some(offer.look()))
     }
 
     // Is no length of the key too long when scaled?
     pub(super) fn scales(&self, key: Key) -> bool
         ensures { Entries self.now.by (F.Face.meaning self.now.face key) (scaled self.now.by key (F.Face.meaning self.now.face key)) result }
     {
-        fits(self.by, self.face.longest()) || matches!(self.look(key), Ok(Some(_)))
+        self.fits(self.face.longest()) || matches!(self.judged(key), Ok(Some(_)))
     }
 }

@@ -1,6 +1,5 @@
 use Rattle.std.proofs.Common.{◌≡◌, true, rules}
-use Rattle.face.specs.Meaning.{looked}
-use Rattle.layers.specs.Scaling.{scaled}
+use Rattle.layers.specs.Answers.{judged_below}
 use Rattle.layers.proofs.Places.{longest_fits}
 use Rattle.layers.proofs.ScaledAnswers.{is_known, entries_scaled, none_too_long}
 use Rattle.layers.proofs.scale.Scale.scales.Goals as goal
@@ -15,5 +14,5 @@ pub returns-in-Ok-Some : goal.returns-in-Ok-Some
 returns-in-Ok-Some g c =
     let m = g.F.Face.meaning c.args.self.now.face c.args.key in
     let k = c.args.self.now.by in
-    let known : is_known (looked (scaled k c.args.key m)) ≡ true = search rules in
+    let known : is_known (judged_below k c.args.key m) ≡ true = search rules in
     entries_scaled k c.args.key m (none_too_long k c.args.key m known)
