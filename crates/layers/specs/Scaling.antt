@@ -9,6 +9,7 @@ use Rattle.face.specs.declared.keys.Key.{Key}
 use Rattle.face.specs.declared.parts.Part.{Part}
 use Rattle.face.specs.declared.variants.Variant.{Variant}
 use Rattle.face.specs.Bounds.{LARGEST}
+use Rattle.face.specs.Faults.{found}
 use Rattle.face.specs.Meaning.{Meaning, faulty, construction, Construction}
 use Rattle.layers.specs.Layers.{through}
 
@@ -48,7 +49,7 @@ first_too_long k place xs = position_from (λ x. not (nat_le (k * x) LARGEST)) p
 
 -- the fault that a scale finds
 abbrev pub too_long_at : Key → ℕ → Fault
-too_long_at key place = record { cause = ScaledLength; layer = Scale; place = place; glyph = key.glyph; passed = 0 }
+too_long_at = found Scale ScaledLength
 
 -- a key has a construction if no length is too long, and else a fault
 abbrev pub judged : Key → Option ℕ → Construction → Meaning

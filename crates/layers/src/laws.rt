@@ -35,11 +35,13 @@ pub fn each_length_has_a_place()
 {}
 
 // A scaled key has a construction where every length fits.
+#[tactic(auto, using(crate::proofs::Judging::what_fits_is_scaled))]
 pub fn what_fits_is_scaled()
     ensures { WhatFitsIsScaled }
 {}
 
 // It has a fault where one does not, at the first that does not.
+#[tactic(auto, using(crate::proofs::Judging::the_first_length_too_long_is_the_fault))]
 pub fn the_first_length_too_long_is_the_fault()
     ensures { TheFirstLengthTooLongIsTheFault }
 {}
