@@ -1,7 +1,8 @@
 -- The entries of lists by their indexes.
-use Rattle.std.proofs.Common.{◌≡◌, ℕ, zero, suc, ◌+◌, ◌<◌, ◌≤◌, List, [], ◌∷◌, ◌++◌, map, length, drop, Some, None, sym, refl, ap, arith}
+use Rattle.std.proofs.Common.{◌≡◌, ℕ, zero, suc, ◌+◌, ◌<◌, ◌≤◌, List, [], ◌∷◌, ◌++◌, map, length, get_or, drop, Some, None, sym, refl, ap, arith}
 use Rattle.std.specs.Option.{option_map}
-use Rattle.std.specs.List.{AllByRecursion, slice_get}
+use Rattle.std.specs.List.{All, slice_get}
+use Rattle.std.proofs.lemmas.Option.{slice_get-get_or}
 
 pub none_is_not_some : {X : Type 0} {x : X} → None ≡ Some x → ⊥
 none_is_not_some e = let z : ◌≡◌ {A = ℕ} 0 1 = cc in omega arith
@@ -39,6 +40,5 @@ drop_nth (y ∷ ys) zero x at = ap (λ z. z ∷ ys) cc
 drop_nth (y ∷ ys) (suc i) x at = let more : suc i + 1 ≡ suc (i + 1) = omega arith in rw more (drop_nth ys i x at)
 
 -- what holds of the entry at each index holds of all
-pub all_from_nth : {X : Type 0} (P : X → Type 0) (xs : List X) → ((i : ℕ) (x : X) → slice_get xs i ≡ Some x → P x) → AllByRecursion P xs
-all_from_nth P [] holds = tt
-all_from_nth P (x ∷ xs) holds = (holds 0 x refl, all_from_nth P xs (λ i y at. holds (suc i) y at))
+pub all_from_nth : {X : Type 0} (P : X → Type 0) (xs : List X) → ((i : ℕ) (x : X) → slice_get xs i ≡ Some x → P x) → All P xs
+all_from_nth P xs holds i d less = holds i (get_or xs i d) (slice_get-get_or xs i d less)

@@ -1,6 +1,5 @@
 -- How large a construction can be.
-use Rattle.std.specs.Prelude.{ℕ, ◌≤◌, length}
-use Rattle.std.specs.List.{AllByRecursion}
+use Rattle.std.specs.Prelude.{ℕ, ◌≤◌, All, length}
 use Rattle.face.specs.Meaning.{Meaning, unknown, faulty, construction, Construction}
 
 -- the largest length, in units of a face
@@ -15,8 +14,8 @@ MOST = 65535
 pub record Within (longest : ℕ) (c : Construction) : Type 0 where
   pub limit : c.limit ≤ LARGEST
   pub least : c.least ≤ longest
-  pub advances : AllByRecursion (λ v. v.advance ≤ longest) c.variants
-  pub fulls : AllByRecursion (λ p. p.full ≤ longest) c.parts
+  pub advances : All (λ v. v.advance ≤ longest) c.variants
+  pub fulls : All (λ p. p.full ≤ longest) c.parts
   pub variants : length c.variants ≤ MOST
   pub parts : length c.parts ≤ MOST
 

@@ -4,7 +4,8 @@ use lib.ListN.{length-map}
 use Rattle.std.proofs.lemmas.Bool.{false≢true}
 use Rattle.std.specs.Option.{option_map}
 use Rattle.std.specs.Result.{result_map_both}
-use Rattle.std.specs.List.{AllByRecursion, slice_get}
+use Rattle.std.specs.List.{All, slice_get}
+use Rattle.std.proofs.lemmas.List.Elements.{All-nil, All-head, All-tail, All-weaker}
 use Rattle.face.specs.declared.faults.Fault.{Fault}
 use Rattle.face.specs.declared.keys.Key.{Key}
 use Rattle.face.specs.declared.looks.Look.{Look}
@@ -45,16 +46,13 @@ module _ (k : ℕ) (key : Key) where
   looked_scaled (construction c) = looked_judged c (first_too_long k 0 (lengths c)) refl
 
   -- lists whose entries come to the same one by one
-  same_entries : {X : Type 0} (f g : X → X) (xs : List X) → AllByRecursion (λ x. f x ≡ g x) xs → (i : ℕ) → slice_get (map f xs) i ≡ option_map g (slice_get xs i)
+  same_entries : {X : Type 0} (f g : X → X) (xs : List X) → All (λ x. f x ≡ g x) xs → (i : ℕ) → slice_get (map f xs) i ≡ option_map g (slice_get xs i)
   same_entries f g [] same i = refl
-  same_entries f g (x ∷ xs) same zero = ap Some same.0
-  same_entries f g (x ∷ xs) same (suc i) = same_entries f g xs same.1 i
+  same_entries f g (x ∷ xs) same zero = ap Some (All-head (λ x. f x ≡ g x) x xs same)
+  same_entries f g (x ∷ xs) same (suc i) = same_entries f g xs (All-tail (λ x. f x ≡ g x) x xs same) i
 
-  same_variants : (vs : List Variant) → AllByRecursion (λ x. k * x ≤ LARGEST) (map (λ v. v.advance) vs) → AllByRecursion (λ v. scaled_variant k v ≡ variant_from k v) vs
-  same_variants [] fit = tt
-  same_variants (v ∷ vs) fit =
-      let advance = whole k v.advance fit.0 in
-      ((λ i. record { face = v.face; glyph = v.glyph; advance = advance i }), same_variants vs fit.1)
+  variant_whole : (v : Variant) → k * v.advance ≤ LARGEST → scaled_variant k v ≡ variant_from k v
+  variant_whole v fits = let advance = whole k v.advance fits in λ i. record { face = v.face; glyph = v.glyph; advance = advance i }
 
   part_whole : (p : Part) → k * p.full ≤ LARGEST → scaled_part k p ≡ part_from k p
   part_whole p fits =
@@ -62,21 +60,19 @@ module _ (k : ℕ) (key : Key) where
       let end = mul-le-mul_left k p.ends in
       same_part (scaled_part k p) (part_from k p) refl refl (omega arith) (omega arith) (whole k p.full fits) refl
 
-  same_parts : (ps : List Part) → AllByRecursion (λ x. k * x ≤ LARGEST) (map (λ p. p.full) ps) → AllByRecursion (λ p. scaled_part k p ≡ part_from k p) ps
-  same_parts [] fit = tt
-  same_parts (p ∷ ps) fit = (part_whole p fit.0, same_parts ps fit.1)
-
-  entries_of : (m above : Meaning) → AllByRecursion (λ x. k * x ≤ LARGEST) (map (λ v. v.advance) (variants_of m)) → AllByRecursion (λ x. k * x ≤ LARGEST) (map (λ p. p.full) (parts_of m))
+  entries_of : (m above : Meaning) → All (λ v. k * v.advance ≤ LARGEST) (variants_of m) → All (λ p. k * p.full ≤ LARGEST) (parts_of m)
       → variants_of above ≡ map (scaled_variant k) (variants_of m) → parts_of above ≡ map (scaled_part k) (parts_of m) → Entries k m above true
   entries_of m above advances fulls variants parts =
+      let vs = All-weaker _ (λ v. scaled_variant k v ≡ variant_from k v) variant_whole (variants_of m) advances in
+      let ps = All-weaker _ (λ p. scaled_part k p ≡ part_from k p) part_whole (parts_of m) fulls in
       record {
-        variants = λ i. ap (λ vs. slice_get vs i) variants ∙ same_entries (scaled_variant k) (variant_from k) (variants_of m) (same_variants (variants_of m) advances) i;
-        parts = λ i. ap (λ ps. slice_get ps i) parts ∙ same_entries (scaled_part k) (part_from k) (parts_of m) (same_parts (parts_of m) fulls) i;
+        variants = λ i. ap (λ vs. slice_get vs i) variants ∙ same_entries (scaled_variant k) (variant_from k) (variants_of m) vs i;
+        parts = λ i. ap (λ ps. slice_get ps i) parts ∙ same_entries (scaled_part k) (part_from k) (parts_of m) ps i;
       }
 
   pub entries_scaled : (m : Meaning) → first_too_long k 0 (lengths_of m) ≡ None → Entries k m (scaled k key m) true
-  entries_scaled unknown e = entries_of unknown (scaled k key unknown) tt tt refl refl
-  entries_scaled (faulty f) e = entries_of (faulty f) (scaled k key (faulty f)) tt tt refl refl
+  entries_scaled unknown e = entries_of unknown (scaled k key unknown) (All-nil _) (All-nil _) refl refl
+  entries_scaled (faulty f) e = entries_of (faulty f) (scaled k key (faulty f)) (All-nil _) (All-nil _) refl refl
   entries_scaled (construction c) e =
       let fit = fitting k c e in
       entries_of (construction c) (scaled k key (construction c)) fit.advances fit.fulls

@@ -1,21 +1,24 @@
 -- No construction that a layer offers is too large. This is a proof: nothing in it has to be believed.
-use Rattle.std.specs.Prelude.{◌≡◌, ℕ, ◌+◌, ◌*◌, ◌≤◌, min, max, Bool, true, false, cond, not, List, [], ◌∷◌, ◌++◌, map, Some, None, Option, nat_le, refl}
-use Rattle.std.proofs.Common.{mul-le-mul_left, arith, leb-true}
-use Rattle.std.proofs.lemmas.List.{length-map}
-use Rattle.std.proofs.ByRecursion.{All-weaker}
-use Rattle.std.specs.List.{AllByRecursion}
+use Rattle.std.specs.Prelude.{◌≡◌, ℕ, ◌+◌, ◌*◌, ◌≤◌, min, max, All, Bool, true, false, cond, not, List, [], ◌∷◌, ◌++◌, map, length, Some, None, Option, nat_le, refl}
+use Rattle.std.proofs.Common.{mul-le-mul_left, arith, leb-true, subst, get_or, get_or-append-add, length-append}
+use Rattle.std.proofs.lemmas.List.{length-map, get_or_append_left}
+use Rattle.std.proofs.Math.ListN.{get_or-map}
+use Rattle.std.proofs.lemmas.List.Elements.{All-nil, All-cons, All-head, All-tail, All-weaker, All-map}
 use Rattle.face.specs.declared.keys.Key.{Key}
 use Rattle.face.specs.Bounds.{LARGEST, Within, Bounded}
 use Rattle.face.specs.Meaning.{Meaning, unknown, faulty, construction, Construction}
 use Rattle.layers.specs.Layers.{raised, fallen_back, capped}
 use Rattle.layers.specs.Scaling.{scaled_variant, scaled_part, scaled_construction, lengths, first_too_long, judged, scaled}
 
--- of two lists, one after the other
-all_parted : {X : Type 0} (P : X → Type 0) (xs ys : List X) → AllByRecursion P (xs ++ ys) → AllByRecursion P xs × AllByRecursion P ys
-all_parted P [] ys all = (tt, all)
-all_parted P (x ∷ xs) ys all =
-    let rest = all_parted P xs ys all.1 in
-    ((all.0, rest.0), rest.1)
+-- what holds of all of two lists, one after the other, holds of all of each, and what holds of mapped entries of those they come from
+all_front : {X : Type 0} (P : X → Type 0) (xs ys : List X) → All P (xs ++ ys) → All P xs
+all_front P xs ys all i d less = subst P (get_or_append_left xs ys d i less) (all i d (omega (arith, length-append xs ys)))
+
+all_back : {X : Type 0} (P : X → Type 0) (xs ys : List X) → All P (xs ++ ys) → All P ys
+all_back P xs ys all i d less = subst P (get_or-append-add xs ys i d) (all (length xs + i) d (omega (arith, length-append xs ys)))
+
+all_unmapped : {X Y : Type 0} (P : Y → Type 0) (f : X → Y) (xs : List X) → All P (map f xs) → All (λ x. P (f x)) xs
+all_unmapped P f xs all i d less = subst P (get_or-map f xs i d) (all i (f d) (omega (arith, length-map xs f)))
 
 pub bounded_capped : (most n : ℕ) (m : Meaning) → Bounded n m → Bounded n (capped most m)
 bounded_capped most n unknown b = tt
@@ -50,29 +53,35 @@ none_head : (b : Bool) (place : ℕ) (rest : Option ℕ) → cond (not b) (Some 
 none_head true place rest e = (refl, e)
 none_head false place rest e = let z : ◌≡◌ {A = ℕ} 0 1 = cc in absurd (omega arith)
 
-pub all_fit : (k place : ℕ) (xs : List ℕ) → first_too_long k place xs ≡ None → AllByRecursion (λ x. k * x ≤ LARGEST) xs
-all_fit k place [] e = tt
+pub all_fit : (k place : ℕ) (xs : List ℕ) → first_too_long k place xs ≡ None → All (λ x. k * x ≤ LARGEST) xs
+all_fit k place [] e = All-nil _
 all_fit k place (x ∷ xs) e =
     let h = none_head (nat_le (k * x) LARGEST) place (first_too_long k (place + 1) xs) e in
-    (leb-true (k * x) LARGEST h.0, all_fit k (place + 1) xs h.1)
+    All-cons (λ x. k * x ≤ LARGEST) x xs (leb-true (k * x) LARGEST h.0) (all_fit k (place + 1) xs h.1)
 
 -- lengths that fit, multiplied
-all_times : {X : Type 0} (f : X → ℕ) (by : X → X) (k n : ℕ) → ((x : X) → f (by x) ≡ k * f x) → (xs : List X) → AllByRecursion (λ x. f x ≤ n) xs → AllByRecursion (λ x. k * x ≤ LARGEST) (map f xs) → AllByRecursion (λ x. f x ≤ min (k * n) LARGEST) (map by xs)
-all_times f by k n is [] short fit = tt
-all_times f by k n is (x ∷ xs) short fit =
-    (omega (arith, is x, mul-le-mul_left k short.0, fit.0), all_times f by k n is xs short.1 fit.1)
+all_times : {X : Type 0} (f : X → ℕ) (by : X → X) (k n : ℕ) → ((x : X) → f (by x) ≡ k * f x) → (xs : List X) → All (λ x. f x ≤ n) xs → All (λ x. k * f x ≤ LARGEST) xs → All (λ x. f x ≤ min (k * n) LARGEST) (map by xs)
+all_times f by k n is xs short fit =
+    All-map (λ x. f x ≤ min (k * n) LARGEST) by xs (λ i d less. let at = get_or xs i d in omega (arith, is at, mul-le-mul_left k (short i d less), fit i d less))
 
 -- the lengths of a construction that fit, by their kinds
 pub record Fitting (k : ℕ) (c : Construction) : Type 0 where
   pub least : k * c.least ≤ LARGEST
-  pub advances : AllByRecursion (λ x. k * x ≤ LARGEST) (map (λ v. v.advance) c.variants)
-  pub fulls : AllByRecursion (λ x. k * x ≤ LARGEST) (map (λ p. p.full) c.parts)
+  pub advances : All (λ v. k * v.advance ≤ LARGEST) c.variants
+  pub fulls : All (λ p. k * p.full ≤ LARGEST) c.parts
 
 pub fitting : (k : ℕ) (c : Construction) → first_too_long k 0 (lengths c) ≡ None → Fitting k c
 fitting k c e =
+    let Fits = λ (x : ℕ). k * x ≤ LARGEST in
+    let advances = map (λ v. v.advance) c.variants in
+    let fulls = map (λ p. p.full) c.parts in
     let all = all_fit k 0 (lengths c) e in
-    let lists = all_parted (λ x. k * x ≤ LARGEST) (map (λ v. v.advance) c.variants) (map (λ p. p.full) c.parts) all.1 in
-    record { least = all.0; advances = lists.0; fulls = lists.1 }
+    let entries = All-tail Fits c.least (advances ++ fulls) all in
+    record {
+      least = All-head Fits c.least (advances ++ fulls) all;
+      advances = all_unmapped Fits (λ v. v.advance) c.variants (all_front Fits advances fulls entries);
+      fulls = all_unmapped Fits (λ p. p.full) c.parts (all_back Fits advances fulls entries);
+    }
 
 module _ (k n : ℕ) (key : Key) where
   within_scaled : (c : Construction) → Within n c → Fitting k c → Within (min (k * n) LARGEST) (scaled_construction k c)
