@@ -6,8 +6,8 @@ use Rattle.face.specs.declared.parts.Part.{Part}
 use Rattle.face.specs.declared.variants.Variant.{Variant}
 use Rattle.face.specs.Bounds.{LARGEST}
 use Rattle.face.specs.Meaning.{Construction, looked, variant_at, part_at}
-use Rattle.math_table.specs.declared.locating.Located.{Located}
-use Rattle.math_table.specs.declared.shapes.Run.{Run}
+use Rattle.math_table.specs.Places.{Located}
+use Rattle.math_table.specs.Places.{Run}
 use Rattle.math_table.specs.declared.shapes.Shape.{Shape}
 use Rattle.math_table.specs.declared.tables.MathTable.{MathTable}
 use Rattle.math_table.specs.Constructions.{variant_entry, part_entry, variant_list, part_list, assembly_parts}

@@ -6,5 +6,5 @@ pub mod KnownSteps
 pub mod LocatedIsKnown
 pub mod OfferedIsKnown
 pub mod ReadOffTheTable
+pub mod SideBySide
 pub mod Standing
-pub mod Tails

@@ -9,12 +9,11 @@ use Rattle.face.specs.declared.parts.Part.{Part}
 use Rattle.face.specs.declared.variants.Variant.{Variant}
 use Rattle.face.specs.Bounds.{LARGEST}
 use Rattle.math_table.specs.declared.found.Found.{Found}
-use Rattle.math_table.specs.declared.locating.Located.{Located}
-use Rattle.math_table.specs.declared.shapes.Run.{Run}
 use Rattle.math_table.specs.declared.shapes.Shape.{Shape}
 use Rattle.math_table.specs.declared.tables.MathTable.{MathTable}
 use Rattle.math_table.specs.Constructions.{variant_entry, part_entry}
 use Rattle.math_table.specs.MathVariants.{located}
+use Rattle.math_table.specs.Places.{Located, Run}
 use Rattle.math_table.specs.Reading.{word, bind, on_found}
 
 -- n words, one after the other
@@ -50,6 +49,10 @@ shape_look (Err f) = Err f
 shape_look (Ok None) = Ok None
 shape_look (Ok (Some s)) =
     Ok (Some (record { limit = LARGEST; least = s.least; variants = s.variants.count; parts = s.parts.count }))
+
+-- where the entry of a run at an index begins, if it has so many
+abbrev pub place_of : Run → (size index : ℕ) → Option ℕ
+place_of r size i = cond (nat_lt i r.count) (Some (r.first + size * i)) None
 
 -- the entry of a run at an index
 abbrev pub entry_of : {X : Type 0} → (ℕ → Result X Fault) → ℕ → Run → ℕ → Option X
