@@ -1,4 +1,5 @@
 pub mod Agreeing
+pub mod Alike
 pub mod GlyphIndexes
 pub mod Holding
 pub mod Indexing
