@@ -1,4 +1,4 @@
-ghost use Rattle.std.specs.Prelude.{◌≡◌, ◌≤◌};
+ghost use Rattle.std.specs.Prelude.{◌≡◌, ◌+◌, ◌^◌, ◌<◌, ◌≤◌};
 ghost use Rattle.std.specs.Option.{ok_or};
 ghost use Rattle.face.specs.declared.faults.Cause.TheVariants.{CoverageFormat};
 ghost use Rattle.math_table.specs.Coverages.{format_of, entry_size, entry_index, first_holding, coverage_index};
@@ -30,9 +30,8 @@ impl TryFrom<u16> for Format {
 }
 
 impl Format {
-    fn entry_size(self) -> u32
-        ensures value { result ≡ entry_size self }
-        ensures bound { result ≤ 6 }
+    fn entry_size(self) -> u8
+        ensures { result ≡ entry_size self }
     {
         match self {
             Format::Glyphs => 2,
@@ -42,7 +41,7 @@ impl Format {
 
     // The index that the entry at `place` gives to the key's glyph, if it holds it.
     fn index_at(self, reader: &Reader, place: u32, position: u32) -> Result<Option<u32>, Fault>
-        requires { place ≤ 1048576 }
+        requires { place + 4 < 2 ^ 32 }
         ensures { result ≡ entry_index reader.now.table.now reader.now.key self place position }
     {
         let glyph = reader.key.glyph;
@@ -66,7 +65,7 @@ impl Format {
         ensures { result ≡ first_holding reader.now.table.now reader.now.key self count first 0 }
     {
         for position in 0..u32::from(count) {
-            let place = first + self.entry_size() * position;
+            let place = first + u32::from(self.entry_size()) * position;
             if let Some(index) = self.index_at(reader, place, position)? {
                 return Ok(Some(index));
             }

@@ -1,4 +1,4 @@
-ghost use Rattle.std.specs.Prelude.{◌≡◌, ◌≤◌};
+ghost use Rattle.std.specs.Prelude.{◌≡◌, ◌+◌, ◌^◌, ◌<◌};
 ghost use Rattle.math_table.specs.Constructions.{variant_entry, part_entry};
 
 use crate::words::Reader;
@@ -7,7 +7,7 @@ use face::{Fault, Part, Variant};
 impl Reader<'_> {
     // A variant of a face: glyph and advance.
     pub(crate) fn variant_at(&self, face: u8, place: u32) -> Result<Variant, Fault>
-        requires { place ≤ 1048576 }
+        requires { place + 2 < 2 ^ 32 }
         ensures { result ≡ variant_entry self.now.table.now face self.now.key place }
     {
         let glyph = self.word(place)?;
@@ -21,7 +21,7 @@ impl Reader<'_> {
 
     // A part of a face: glyph, start connector, end connector, full advance and flags.
     pub(crate) fn part_at(&self, face: u8, place: u32) -> Result<Part, Fault>
-        requires { place ≤ 1048576 }
+        requires { place + 8 < 2 ^ 32 }
         ensures { result ≡ part_entry self.now.table.now face self.now.key place }
     {
         let glyph = self.word(place)?;

@@ -26,27 +26,11 @@ impl Model for Located {
     ghost inverse = { λ located. record { least = located.least; place = located.place } };
 }
 
-// Where MathVariants has what belongs to an axis: the coverage offset, and the count of construction offsets.
+// Where MathVariants has, from its beginning, what belongs to an axis: the offset of a coverage table, and the count of construction offsets.
 #[derive(Clone, Copy)]
 struct AxisFields {
     coverage: u32,
     count: u32,
-}
-
-fn fields(axis: Axis) -> AxisFields
-    ensures coverage { result.coverage ≡ coverage_offset axis }
-    ensures count { result.count ≡ count_offset axis }
-{
-    match axis {
-        Axis::Upright => AxisFields {
-            coverage: 2,
-            count: 6,
-        },
-        Axis::Level => AxisFields {
-            coverage: 4,
-            count: 8,
-        },
-    }
 }
 
 // The subtable MathVariants as it is read for a key.
@@ -58,14 +42,28 @@ struct MathVariants<'a> {
 }
 
 impl MathVariants<'_> {
+    fn fields(&self) -> AxisFields
+        ensures coverage { result.coverage ≡ coverage_offset self.now.reader.key.axis }
+        ensures count { result.count ≡ count_offset self.now.reader.key.axis }
+    {
+        match self.reader.key.axis {
+            Axis::Upright => AxisFields {
+                coverage: 2,
+                count: 6,
+            },
+            Axis::Level => AxisFields {
+                coverage: 4,
+                count: 8,
+            },
+        }
+    }
+
     // The index of the key's glyph in the coverage of its axis.
     fn covered_index(&self) -> Result<Option<u32>, Fault>
         ensures { let r = self.now.reader in result ≡ covered r.table.now r.key self.now.base }
     {
         let base = u32::from(self.base);
-        let offset = self
-            .reader
-            .word(base + fields(self.reader.key.axis).coverage)?;
+        let offset = self.reader.word(base + self.fields().coverage)?;
         if offset == 0 {
             return Ok(None);
         }
@@ -74,7 +72,8 @@ impl MathVariants<'_> {
 
     // How many construction offsets stand before those of the key's axis.
     fn offsets_before(&self) -> Result<u16, Fault>
-        ensures { let r = self.now.reader in result ≡ skipped r.table.now r.key self.now.base r.key.axis }
+        ensures { let r = self.now.reader in
+            result ≡ skipped r.table.now r.key self.now.base r.key.axis }
     {
         match self.reader.key.axis {
             Axis::Upright => Ok(0),
@@ -84,10 +83,11 @@ impl MathVariants<'_> {
 
     // The construction offset at an index of the key's axis.
     fn construction_offset(&self, index: u32) -> Result<u16, Fault>
-        ensures { let r = self.now.reader in result ≡ construction_offset r.table.now r.key self.now.base index }
+        ensures { let r = self.now.reader in
+            result ≡ construction_offset r.table.now r.key self.now.base index }
     {
         let base = u32::from(self.base);
-        let place = base + fields(self.reader.key.axis).count;
+        let place = base + self.fields().count;
         let count = self.reader.word(place)?;
         if index >= u32::from(count) {
             return Err(fault(Cause::CoverageIndex, self.reader.key, place));

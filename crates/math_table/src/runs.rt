@@ -25,7 +25,7 @@ impl Model for Run {
 }
 
 impl Run {
-    // Where the entry at an index begins, if there are more, in entries of `size` bytes.
+    // Where the entry at an index begins, if the run has it and entries are of `size` bytes.
     pub(crate) fn place(self, size: u8, index: u16) -> Option<u32>
         ensures { result ≡ place_of self size index }
     {

@@ -1,6 +1,7 @@
 ghost use Rattle.std.specs.Prelude.{◌≡◌, ◌≤◌};
 ghost use Rattle.math_table.specs.Shapes.{run as run_at, part_run, shaped};
 
+use crate::locating::Located;
 use crate::runs::Run;
 use crate::words::Reader;
 use face::Fault;
@@ -16,8 +17,7 @@ pub(crate) struct Shape {
 impl Reader<'_> {
     // Entries of so many words each, whose count stands at `count`.
     fn run(&self, words: u8, count: u32, first: u32) -> Result<Run, Fault>
-        requires words { words ≤ 5 }
-        requires first { first ≤ 262144 }
+        requires { first ≤ 262144 }
         ensures { result ≡ run_at self.now.table.now self.now.key words count first }
     {
         let count = self.word(count)?;
@@ -26,14 +26,13 @@ impl Reader<'_> {
     }
 
     // The parts of a construction, whose assembly begins `offset` bytes after it; 0 means no assembly.
-    fn part_run(&self, place: u32, offset: u16) -> Result<Run, Fault>
-        requires { place ≤ 131070 }
-        ensures { result ≡ part_run self.now.table.now self.now.key place offset }
+    fn part_run(&self, located: Located, offset: u16) -> Result<Run, Fault>
+        ensures { result ≡ part_run self.now.table.now self.now.key located.place offset }
     {
         if offset == 0 {
             return Ok(Run { count: 0, first: 0 });
         }
-        let place = place + u32::from(offset);
+        let place = located.place + u32::from(offset);
         self.run(5, place + 4, place + 6)
     }
 
@@ -47,7 +46,7 @@ impl Reader<'_> {
         let place = located.place;
         let assembly = self.word(place)?;
         let variants = self.run(2, place + 2, place + 4)?;
-        let parts = self.part_run(place, assembly)?;
+        let parts = self.part_run(located, assembly)?;
         Ok(Some(Shape {
             least: located.least,
             variants,

@@ -1,4 +1,4 @@
-ghost use Rattle.std.specs.Prelude.{◌≡◌, ◌+◌, ◌*◌, ◌≤◌};
+ghost use Rattle.std.specs.Prelude.{◌≡◌, ◌+◌, ◌*◌, ◌^◌, ◌<◌};
 ghost use Rattle.math_table.specs.Reading.{word_at, word, fault_at};
 ghost use Rattle.math_table.specs.Shapes.{words_inside};
 
@@ -53,7 +53,7 @@ impl Reader<'_> {
     // Are so many words from `first` on inside the table? They lie side by side, so its length tells.
     #[tactic(auto, using(crate::proofs::SideBySide::all_inside, crate::proofs::SideBySide::first_outside))]
     pub(crate) fn words_inside(&self, words: u32, first: u32) -> Result<(), Fault>
-        requires { first + 2 * words ≤ 1048576 }
+        requires { first + 2 * words < 2 ^ 32 }
         ensures { result ≡ words_inside self.now.table.now self.now.key words first }
     {
         let whole = self.table.len().saturating_sub(first as usize) / 2;
