@@ -108,8 +108,8 @@ module _ (m : MathTable) (key : Key) where
     by fault = refl
     by (answers nothing) = refl
     by (answers (found is)) =
-        let variants = entries_count _ _ _ _ _ is.variants in
-        let parts = entries_count _ _ _ _ _ is.parts in
+        let variants = entries_count _ _ _ _ is.variants in
+        let parts = entries_count _ _ _ _ is.parts in
         λ i. Ok (Some (record { limit = is.limit i; least = is.least i; variants = variants i; parts = parts i }))
 
   pub variant_agrees : (i : ℕ) → variant_at (meant m key) i ≡ shape_variant m key shape i
@@ -117,11 +117,13 @@ module _ (m : MathTable) (key : Key) where
     by : {r : Result (Option Construction) Fault} {s : Result (Option Shape) Fault} → Alike (BothFind (Shapes m.table.now m.face key)) r s → variant_at (meaning_of r) i ≡ shape_variant m key s i
     by fault = refl
     by (answers nothing) = refl
-    by (answers (found is)) = entry_is _ _ _ _ _ is.variants i
+    by (answers (found is)) = entry_is _ _ _ _ is.variants i
 
   pub part_agrees : (i : ℕ) → part_at (meant m key) i ≡ shape_part m key shape i
   part_agrees i = by (agrees m.table.now m.face key) where
     by : {r : Result (Option Construction) Fault} {s : Result (Option Shape) Fault} → Alike (BothFind (Shapes m.table.now m.face key)) r s → part_at (meaning_of r) i ≡ shape_part m key s i
     by fault = refl
     by (answers nothing) = refl
-    by (answers (found is)) = entry_is _ _ _ _ _ is.parts i
+    by (answers (found is)) = entry_is _ _ _ _ is.parts i
+
+pub ruleset shape_answers = (look_agrees, variant_agrees, part_agrees)

@@ -27,3 +27,5 @@ module _ (table : List ℕ) (key : Key) where
       let one : place + 2 * ((length table - place) / 2) ≡ place + 2 + 2 * ((length table - (place + 2)) / 2) = omega arith in
       rw (here, one) (first_outside n (place + 2) (omega arith)))
       (cases_lt (length table) (place + 2))
+
+pub ruleset told_by_length = (all_inside, first_outside)

@@ -1,6 +1,6 @@
 -- Where the entries of a construction stand: what the code works out before it answers.
 -- Nothing here has to be believed, since every answer is equated with Meanings.antt.
-use Rattle.std.specs.Prelude.{ℕ, zero, suc, ◌+◌, ◌*◌, cond, List, Some, None, Ok, Err, Option, Result, ◌==◌, nat_lt}
+use Rattle.std.specs.Prelude.{ℕ, zero, suc, ◌+◌, ◌*◌, cond, List, Some, None, Ok, Err, Option, Result, ◌==◌, nat_lt, option_and_then}
 use Rattle.std.specs.Result.{result_ok}
 use Rattle.face.specs.declared.faults.Fault.{Fault}
 use Rattle.face.specs.declared.keys.Key.{Key}
@@ -56,7 +56,7 @@ place_of r size i = cond (nat_lt i r.count) (Some (r.first + size * i)) None
 
 -- the entry of a run at an index
 abbrev pub entry_of : {X : Type 0} → (ℕ → Result X Fault) → ℕ → Run → ℕ → Option X
-entry_of read size r i = cond (nat_lt i r.count) (result_ok (read (r.first + size * i))) None
+entry_of read size r i = option_and_then (λ place. result_ok (read place)) (place_of r size i)
 
 module _ (m : MathTable) (key : Key) where
   -- what a shape answers to variant

@@ -61,7 +61,7 @@ impl<'a> MathTable<'a> {
     }
 
     // Where the key's construction stands, if it has one: enough to answer every question.
-    #[tactic(auto, using(crate::proofs::Agreeing::look_agrees, crate::proofs::Agreeing::variant_agrees, crate::proofs::Agreeing::part_agrees))]
+    #[tactic(auto, using(crate::proofs::Agreeing::shape_answers))]
     fn shape(&self, key: Key) -> Result<Option<Shape>, Fault>
         ensures look { looked (meant self.now key) ≡ shape_look result }
         ensures variants { (i : ℕ) → variant_at (meant self.now key) i ≡ shape_variant self.now key result i }

@@ -51,7 +51,7 @@ impl Reader<'_> {
     }
 
     // Are so many words from `first` on inside the table? They lie side by side, so its length tells.
-    #[tactic(auto, using(crate::proofs::SideBySide::all_inside, crate::proofs::SideBySide::first_outside))]
+    #[tactic(auto, using(crate::proofs::SideBySide::told_by_length))]
     pub(crate) fn words_inside(&self, words: u32, first: u32) -> Result<(), Fault>
         requires { first + 2 * words < 2 ^ 32 }
         ensures { result ≡ words_inside self.now.table.now self.now.key words first }
