@@ -1,5 +1,5 @@
 -- The index that a coverage table gives a glyph, if it gives one, is what is read, and the other way round.
-use Rattle.std.proofs.Common.{◌≡◌, ℕ, zero, suc, ◌+◌, ◌-◌, ◌*◌, ◌<◌, ◌≤◌, Bool, true, false, cond, ◌&&◌, eqb, leb, List, length, Some, None, Ok, Option, Result, sym, refl, ap, ◌∙◌, subst, ⊎_elim, eq-or-lt_of_le, mul-le-mul_left, arith, below_more, eqb-true, leb-true}
+use Rattle.std.proofs.Common.{◌≡◌, ℕ, zero, suc, ◌+◌, ◌-◌, ◌<◌, ◌≤◌, Bool, true, false, cond, ◌&&◌, eqb, leb, List, length, Some, None, Ok, Option, Result, sym, refl, ap, ◌∙◌, subst, ⊎_elim, eq-or-lt_of_le, mul-le-mul_left, arith, below_more, eqb-true, leb-true}
 use borrow.Author.Tests.{eqb-false}
 use Rattle.std.proofs.lemmas.Bool.{and_parts}
 use Rattle.std.proofs.lemmas.Bool.Decides.{nat_tests}
@@ -8,12 +8,13 @@ use Rattle.face.specs.declared.faults.Fault.{Fault}
 use Rattle.face.specs.declared.keys.Key.{Key}
 use Rattle.math_table.specs.declared.coverages.Format.{Format}
 use Rattle.math_table.specs.declared.coverages.Format.TheVariants.{Glyphs, Ranges}
-use Rattle.math_table.specs.Coverages.{format_of, entry_size, entry_index, first_holding, index_by, coverage_index}
+use Rattle.math_table.specs.Coverages.{format_of, entry_size, entry_index, index_by, coverage_index}
 use Rattle.math_table.specs.FaultPlaces.{no_format}
 use Rattle.math_table.specs.HasNothing.{LeavesOut}
 use Rattle.math_table.specs.MathVariants.{coverage_offset}
 use Rattle.math_table.specs.Offers.{WordIs, Leads, Gives, alone, ranged, format_word, Covers}
 use Rattle.math_table.specs.Outcomes.{answer, IfFound, nothing, comes_bind}
+use Rattle.math_table.proofs.Holding.{place_at, holding_from, holding_all, holding_more, holding_past}
 use Rattle.math_table.proofs.Standing.{Reads, found_if, comes_with, comes_or_else, known_holds, fault_comes, word_comes}
 use Rattle.math_table.proofs.KnownSteps.{bind_to, word_to, word_inside, word_ends_inside}
 
@@ -82,22 +83,13 @@ module _ (table : List ℕ) (key : Key) where
   -- the entries of the coverage table at `place`, by their positions
   module _ (place : ℕ) (format : Format) where
     abbrev entry_at : ℕ → ℕ
-    entry_at position = place + 4 + entry_size format * position
+    entry_at = place_at format (place + 4)
+
+    abbrev holding : (n position : ℕ) → Result (Option ℕ) Fault
+    holding = holding_from table key format (place + 4)
 
     abbrev NoneBefore : ℕ → Type 0
     NoneBefore position = (i : ℕ) → i < position → (index : ℕ) → Holds format (entry_at i) i index → ⊥
-
-    -- the first of n entries from a position on
-    abbrev holding : (n position : ℕ) → Result (Option ℕ) Fault
-    holding n position = first_holding table key format n (entry_at position) position
-
-    holding_none : (n : ℕ) → holding n 0 ≡ first_holding table key format n (place + 4) 0
-    holding_none n = let start : entry_at 0 ≡ place + 4 = omega arith in ap (λ k. first_holding table key format n k 0) start
-
-    holding_more : (n position : ℕ) → holding n (position + 1) ≡ first_holding table key format n (entry_at position + entry_size format) (position + 1)
-    holding_more n position =
-        let step : entry_at (position + 1) ≡ entry_at position + entry_size format = omega arith in
-        ap (λ k. first_holding table key format n k (position + 1)) step
 
     holding_comes : (count : ℕ) → WordIs table place (format_word format) → WordIs table (place + 2) count
         → (n position : ℕ) → position + n ≡ count → entry_at position ≤ length table → NoneBefore position → Finds place (holding n position)
@@ -126,13 +118,13 @@ module _ (table : List ℕ) (key : Key) where
         })
         (λ ends none.
         let not_here = none_holds (entry_at position) position format (at.1 ∙ ap Ok none) in
-        subst (Finds place) (holding_more n position)
+        subst (Finds place) (holding_more table key format (place + 4) n position)
         (holding_comes count format_is count_is n (position + 1) (omega arith) (omega arith)
         (below_more (λ i. (index : ℕ) → Holds format (entry_at i) i index → ⊥) position none_before not_here))))
 
-    holding_past : (n position : ℕ) → entry_at position + entry_size format ≤ length table → ((index : ℕ) → Holds format (entry_at position) position index → ⊥)
+    past : (n position : ℕ) → entry_at position + entry_size format ≤ length table → ((index : ℕ) → Holds format (entry_at position) position index → ⊥)
         → holding (suc n) position ≡ holding n (position + 1)
-    holding_past n position inside not_here = bind_to _ (none_read (entry_at position) position format inside not_here) (sym (holding_more n position))
+    past n position inside not_here = holding_past table key format (place + 4) n position (none_read (entry_at position) position format inside not_here)
 
     -- the words of the entries before one that is inside the table are inside it too
     holding_to : (index i n position : ℕ) → position ≤ i → i < position + n → Holds format (entry_at i) i index → NoneBefore i
@@ -145,7 +137,7 @@ module _ (table : List ℕ) (key : Key) where
         (λ (later : position < i).
         let ends = holds_inside (entry_at i) i format index holds in
         let rises = mul-le-mul_left (entry_size format) later in
-        holding_past n position (omega arith) (none_before position later)
+        past n position (omega arith) (none_before position later)
         ∙ holding_to index i n (position + 1) (omega arith) (omega arith) holds none_before)
         (eq-or-lt_of_le from)
 
@@ -154,7 +146,7 @@ module _ (table : List ℕ) (key : Key) where
     holding_nothing count (suc n) position within inside none =
         let below : position < count = omega arith in
         let rises = mul-le-mul_left (entry_size format) below in
-        holding_past n position (omega arith) (none position below) ∙ holding_nothing count n (position + 1) (omega arith) inside none
+        past n position (omega arith) (none position below) ∙ holding_nothing count n (position + 1) (omega arith) inside none
 
     indexed_to : {count : ℕ} {r : Result (Option ℕ) Fault} → WordIs table place (format_word format) → WordIs table (place + 2) count
         → holding count 0 ≡ r → coverage_index table key place ≡ r
@@ -162,7 +154,7 @@ module _ (table : List ℕ) (key : Key) where
         bind_to _ (word_to table key place format_is) (
         ap (index_by table key place) (format_back format) ∙
         bind_to _ (word_to table key (place + 2) count_is)
-        (sym (holding_none count) ∙ to))
+        (sym (holding_all table key format (place + 4) count) ∙ to))
 
   module _ (place : ℕ) where
     pub coverage_to : (index : ℕ) → Covers table key.glyph place index → coverage_index table key place ≡ Ok (Some index)
@@ -180,7 +172,7 @@ module _ (table : List ℕ) (key : Key) where
     entries_come format format_is =
         comes_bind (word_comes table key (place + 2)) (λ n count_is.
         let ends = word_ends_inside table (place + 2) n count_is in
-        subst (Finds place) (holding_none place format n)
+        subst (Finds place) (holding_all table key format (place + 4) n)
         (holding_comes place format n format_is count_is n 0 (omega arith) (omega arith) (λ i below. absurd (omega arith))))
 
     pub coverage_comes : Finds place (coverage_index table key place)

@@ -1,37 +1,28 @@
 -- The entries of a list that was read, by their indexes.
-use Rattle.std.proofs.Common.{◌≡◌, ℕ, zero, suc, ◌+◌, ◌*◌, true, false, cond, ltb, List, [], ◌∷◌, length, None, Ok, Err, Result, sym, refl, ap, mul-suc, arith}
-use Rattle.std.proofs.lemmas.Bool.Decides.{nat_tests}
-use Rattle.std.specs.Result.{result_ok}
+use Rattle.std.proofs.Common.{◌≡◌, ℕ, true, false, ltb, inl, inr, lt-ltb, List, length, Ok, Err, Result, refl, ◌∙◌, arith}
+use Rattle.std.proofs.lemmas.Bool.{le-ltb}
+use Rattle.std.proofs.lemmas.Option.{slice_get_cases}
 use Rattle.std.specs.List.{slice_get}
 use Rattle.face.specs.declared.faults.Fault.{Fault}
-use Rattle.math_table.specs.Outcomes.{Comes, answer, fault, comes_entries}
+use Rattle.math_table.specs.Outcomes.{Comes, answer, fault}
+use Rattle.math_table.specs.Places.{Run}
 use Rattle.math_table.specs.Reading.{entries}
-use Rattle.math_table.proofs.Standing.{answer_holds}
+use Rattle.math_table.specs.Shapes.{entry_of}
+use Rattle.math_table.proofs.Standing.{answer_holds, Stand, entries_come}
 
--- what comes of a reading, whatever it is
-own : {X : Type 0} (r : Result X Fault) → Comes (λ _. Unit {0}) (λ x. r ≡ Ok x) r
-own (Ok x) = answer refl
-own (Err f) = fault tt
+module _ {X : Type 0} (read : ℕ → Result X Fault) (size : ℕ) (r : Run) (xs : List X) (is : entries read size r.count r.first ≡ Ok xs) where
+  read_at : Stand (λ place x. read place ≡ Ok x) size r.count r.first xs
+  read_at = answer_holds (entries_come _ size (λ place. by (read place)) r.count r.first) is where
+    by : (r : Result X Fault) → Comes (λ _. Unit {0}) (λ x. r ≡ Ok x) r
+    by (Ok x) = answer refl
+    by (Err f) = fault tt
 
-module _ {X : Type 0} (read : ℕ → Result X Fault) (size : ℕ) where
-  -- n entries from a place on: so many, and the one at an index stands so many sizes after the first
-  abbrev pub Standing : ℕ → ℕ → List X → Type 0
-  Standing n place xs = (length xs ≡ n) × ((i : ℕ) → slice_get xs i ≡ cond (ltb i n) (result_ok (read (place + size * i))) None)
+  pub entries_count : length xs ≡ r.count
+  entries_count = read_at.0
 
-  none_stand : (place : ℕ) → Standing 0 place []
-  none_stand place = (refl, λ i. let past : ltb i 0 ≡ false = grind (arith, nat_tests) in rw past)
-
-  more_stand : (n place : ℕ) (x : X) (xs : List X) → read place ≡ Ok x → Standing n (place + size) xs → Standing (suc n) place (x ∷ xs)
-  more_stand n place x xs is rest = (ap suc rest.0, at) where
-    at : (i : ℕ) → slice_get (x ∷ xs) i ≡ cond (ltb i (suc n)) (result_ok (read (place + size * i))) None
-    at zero =
-        let here : ltb 0 (suc n) ≡ true = grind (arith, nat_tests) in
-        let start : place + size * zero ≡ place = omega arith in
-        rw (here, start) (sym (ap result_ok is))
-    at (suc i) =
-        let below : ltb (suc i) (suc n) ≡ ltb i n = grind (arith, nat_tests) in
-        let step : place + size * suc i ≡ place + size + size * i = omega (arith, mul-suc size i) in
-        rw (below, step) (rest.1 i)
-
-  pub entries_stand : (n place : ℕ) (xs : List X) → entries read size n place ≡ Ok xs → Standing n place xs
-  entries_stand n place xs e = answer_holds (comes_entries size Standing none_stand more_stand (λ place. own (read place)) n place) e
+  pub entry_is : (i : ℕ) → slice_get xs i ≡ entry_of read size r i
+  entry_is i =
+      elim (slice_get_cases xs i).1 [
+        | inl at ↦ let below : ltb i r.count ≡ true = lt-ltb i r.count (omega (arith, read_at.0)) in at.2 ∙ rw (below, read_at.1 i at.0 at.2)
+        | inr past ↦ let above : ltb i r.count ≡ false = le-ltb i r.count (omega (arith, read_at.0)) in past.1 ∙ rw above
+      ]

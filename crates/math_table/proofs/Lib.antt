@@ -1,4 +1,5 @@
 pub mod Agreeing
+pub mod Alike
 pub mod GlyphIndexes
 pub mod Holding
 pub mod Indexing
@@ -6,5 +7,5 @@ pub mod KnownSteps
 pub mod LocatedIsKnown
 pub mod OfferedIsKnown
 pub mod ReadOffTheTable
+pub mod SideBySide
 pub mod Standing
-pub mod Tails

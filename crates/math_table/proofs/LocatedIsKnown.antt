@@ -5,7 +5,7 @@ use Rattle.face.specs.declared.faults.Fault.{Fault}
 use Rattle.face.specs.declared.keys.Axis.{Axis}
 use Rattle.face.specs.declared.keys.Axis.TheVariants.{Upright, Level}
 use Rattle.face.specs.declared.keys.Key.{Key}
-use Rattle.math_table.specs.declared.locating.Located.{Located}
+use Rattle.math_table.specs.Places.{Located}
 use Rattle.math_table.specs.Coverages.{coverage_index}
 use Rattle.math_table.specs.HasNothing.{ConstructsNothing, no_coverage, not_covered, null_construction, HasNothing, empty, no_variants, not_in_variants}
 use Rattle.math_table.specs.MathVariants.{coverage_offset, count_offset, covered, skipped, construction_offset, located_from, located}

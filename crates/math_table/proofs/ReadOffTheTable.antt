@@ -9,7 +9,7 @@ use Rattle.face.specs.declared.parts.Part.{Part}
 use Rattle.face.specs.declared.variants.Variant.{Variant}
 use Rattle.face.specs.Bounds.{LARGEST}
 use Rattle.face.specs.Meaning.{unknown, faulty, construction, Construction}
-use Rattle.math_table.specs.declared.locating.Located.{Located}
+use Rattle.math_table.specs.Places.{Located}
 use Rattle.math_table.specs.Constructions.{variant_entry, part_entry, assembly_parts}
 use Rattle.math_table.specs.FaultPlaces.{no_construction}
 use Rattle.math_table.specs.HasNothing.{ConstructsNothing, no_coverage, not_covered, null_construction, HasNothing, empty, no_variants, not_in_variants}

@@ -50,6 +50,29 @@ module _ {X : Type 0} {P : X → Type 0} {Q : Fault → Type 0} where
   fault_holds (answer p) e = absurd (grind arith)
   fault_holds {f} (fault {f = g} q) e = let same : g ≡ f = cc in subst Q same q
 
+-- n entries that were read from a place on: so many, and the one at i stands i sizes after the place
+module _ {X : Type 0} (Is : ℕ → X → Type 0) (size : ℕ) where
+  abbrev pub Stand : ℕ → ℕ → List X → Type 0
+  Stand n place xs = (length xs ≡ n) × ((i : ℕ) (x : X) → slice_get xs i ≡ Some x → Is (place + size * i) x)
+
+  none_stand : (place : ℕ) → Stand 0 place []
+  none_stand place = (refl, λ i x e. absurd (grind arith))
+
+  more_stand : (n place : ℕ) (x : X) (xs : List X) → Is place x → Stand n (place + size) xs → Stand (suc n) place (x ∷ xs)
+  more_stand n place x xs is rest = (ap suc rest.0, at) where
+    at : (i : ℕ) (y : X) → slice_get (x ∷ xs) i ≡ Some y → Is (place + size * i) y
+    at zero y e =
+        let same : x ≡ y = cc in
+        let start : place ≡ place + size * 0 = omega arith in
+        subst (λ k. Is k y) start (subst (Is place) same is)
+    at (suc i) y e =
+        let step : place + size + size * i ≡ place + size * suc i = omega arith in
+        subst (λ k. Is k y) step (rest.1 i y e)
+
+  pub entries_come : {Q : Fault → Type 0} {read : ℕ → Result X Fault} → ((place : ℕ) → Comes Q (Is place) (read place))
+      → (n place : ℕ) → Comes Q (Stand n place) (entries read size n place)
+  entries_come reads n place = comes_entries size Stand none_stand more_stand reads n place
+
 -- P of the answer; a fault is where it says
 abbrev pub Reads : List ℕ → Key → {X : Type 0} → (X → Type 0) → Result X Fault → Type 0
 Reads table key P r = Comes (FaultStands table key) P r
@@ -68,25 +91,7 @@ module _ (table : List ℕ) (key : Key) where
   pub listed_comes : {X : Type 0} {Is : ℕ → X → Type 0} {read : ℕ → Result X Fault} (size count first : ℕ)
       → ((place : ℕ) → Reads table key (Is place) (read place))
       → Reads table key (Listed table Is size count first) (bind (word table key count) (λ n. entries read size n first))
-  listed_comes {X} {Is} size count first reads =
+  listed_comes {Is} size count first reads =
       comes_bind (word_comes count) (λ n is.
-      comes_so (comes_entries size Entries none more reads n first) (λ xs all.
+      comes_so (entries_come Is size reads n first) (λ xs all.
       record { length_is = subst (WordIs table count) (sym all.0) is; entries_are = all.1 }))
-    where
-      Entries : ℕ → ℕ → List X → Type 0
-      Entries n place xs = (length xs ≡ n) × ((i : ℕ) (x : X) → slice_get xs i ≡ Some x → Is (place + size * i) x)
-
-      none : (place : ℕ) → Entries 0 place []
-      none place = (refl, λ i x e. absurd (grind arith))
-
-      more : (n place : ℕ) (x : X) (xs : List X) → Is place x → Entries n (place + size) xs → Entries (suc n) place (x ∷ xs)
-      more n place x xs is rest = (ap suc rest.0, at)
-        where
-          at : (i : ℕ) (y : X) → slice_get (x ∷ xs) i ≡ Some y → Is (place + size * i) y
-          at zero y e =
-              let same : x ≡ y = cc in
-              let start : place ≡ place + size * 0 = omega arith in
-              subst (λ k. Is k y) start (subst (Is place) same is)
-          at (suc i) y e =
-              let step : place + size + size * i ≡ place + size * suc i = omega arith in
-              subst (λ k. Is k y) step (rest.1 i y e)

@@ -9,5 +9,6 @@ pub mod MathVariants
 pub mod Meanings
 pub mod Offers
 pub mod Outcomes
+pub mod Places
 pub mod Reading
 pub mod Shapes

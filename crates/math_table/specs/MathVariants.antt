@@ -5,7 +5,7 @@ use Rattle.face.specs.declared.faults.Fault.{Fault}
 use Rattle.face.specs.declared.keys.Axis.{Axis}
 use Rattle.face.specs.declared.keys.Axis.TheVariants.{Upright, Level}
 use Rattle.face.specs.declared.keys.Key.{Key}
-use Rattle.math_table.specs.declared.locating.Located.{Located}
+use Rattle.math_table.specs.Places.{Located}
 use Rattle.math_table.specs.Coverages.{coverage_index}
 use Rattle.math_table.specs.Reading.{word, fault_at, bind, on_found, via}
 

@@ -4,7 +4,7 @@ use Rattle.face.specs.declared.faults.Fault.{Fault}
 use Rattle.face.specs.declared.keys.Key.{Key}
 use Rattle.face.specs.Bounds.{LARGEST}
 use Rattle.face.specs.Meaning.{Meaning, unknown, faulty, construction, Construction}
-use Rattle.math_table.specs.declared.locating.Located.{Located}
+use Rattle.math_table.specs.Places.{Located}
 use Rattle.math_table.specs.Constructions.{variant_list, assembly_parts}
 use Rattle.math_table.specs.MathVariants.{located}
 use Rattle.math_table.specs.Reading.{word, bind, on_found}

@@ -1,6 +1,6 @@
 -- Where the entries of a construction stand: what the code works out before it answers.
 -- Nothing here has to be believed, since every answer is equated with Meanings.antt.
-use Rattle.std.specs.Prelude.{ℕ, zero, suc, ◌+◌, ◌*◌, cond, List, Some, None, Ok, Err, Option, Result, ◌==◌, nat_lt}
+use Rattle.std.specs.Prelude.{ℕ, zero, suc, ◌+◌, ◌*◌, cond, List, Some, None, Ok, Err, Option, Result, ◌==◌, nat_lt, option_and_then}
 use Rattle.std.specs.Result.{result_ok}
 use Rattle.face.specs.declared.faults.Fault.{Fault}
 use Rattle.face.specs.declared.keys.Key.{Key}
@@ -9,12 +9,11 @@ use Rattle.face.specs.declared.parts.Part.{Part}
 use Rattle.face.specs.declared.variants.Variant.{Variant}
 use Rattle.face.specs.Bounds.{LARGEST}
 use Rattle.math_table.specs.declared.found.Found.{Found}
-use Rattle.math_table.specs.declared.locating.Located.{Located}
-use Rattle.math_table.specs.declared.shapes.Run.{Run}
 use Rattle.math_table.specs.declared.shapes.Shape.{Shape}
 use Rattle.math_table.specs.declared.tables.MathTable.{MathTable}
 use Rattle.math_table.specs.Constructions.{variant_entry, part_entry}
 use Rattle.math_table.specs.MathVariants.{located}
+use Rattle.math_table.specs.Places.{Located, Run}
 use Rattle.math_table.specs.Reading.{word, bind, on_found}
 
 -- n words, one after the other
@@ -51,9 +50,13 @@ shape_look (Ok None) = Ok None
 shape_look (Ok (Some s)) =
     Ok (Some (record { limit = LARGEST; least = s.least; variants = s.variants.count; parts = s.parts.count }))
 
+-- where the entry of a run at an index begins, if it has so many
+abbrev pub place_of : Run → (size index : ℕ) → Option ℕ
+place_of r size i = cond (nat_lt i r.count) (Some (r.first + size * i)) None
+
 -- the entry of a run at an index
 abbrev pub entry_of : {X : Type 0} → (ℕ → Result X Fault) → ℕ → Run → ℕ → Option X
-entry_of read size r i = cond (nat_lt i r.count) (result_ok (read (r.first + size * i))) None
+entry_of read size r i = option_and_then (λ place. result_ok (read place)) (place_of r size i)
 
 module _ (m : MathTable) (key : Key) where
   -- what a shape answers to variant

@@ -7,6 +7,7 @@ mod entries;
 pub mod found;
 pub mod laws;
 mod locating;
+mod runs;
 mod shapes;
 pub mod tables;
 mod words;

@@ -1,9 +1,9 @@
-ghost use Rattle.std.specs.Prelude.{◌≡◌, ◌≤◌, IfSome, IfOk};
+ghost use Rattle.std.specs.Prelude.{◌≡◌, ◌≤◌, ◌+◌};
 ghost use Rattle.math_table.specs.MathVariants.{coverage_offset, count_offset, covered, skipped, construction_offset, located_from, located};
 
-use crate::coverages::coverage_index;
-use crate::words::{fault, word_at};
-use face::{Axis, Cause, Fault, Key};
+use crate::words::{Reader, fault};
+use face::{Axis, Cause, Fault};
+use std::marker::Model;
 
 // Where a key's construction begins, as a byte offset, and the least overlap.
 #[derive(Clone, Copy)]
@@ -12,93 +12,127 @@ pub(crate) struct Located {
     pub(crate) place: u32,
 }
 
-fn coverage_offset(axis: Axis) -> u32
-    ensures { result ≡ coverage_offset axis }
-{
-    match axis {
-        Axis::Upright => 2,
-        Axis::Level => 4,
+// Two words lead there: to MathVariants, and from it.
+impl Model for Located {
+    ghost use Rattle.std.specs.Prelude.{◌≤◌};
+    ghost use Rattle.math_table.specs.Places.{Located as TheLocated};
+
+    ghost Value = { TheLocated };
+
+    ghost view = { λ located. record { least = located.least; place = located.place } };
+
+    ghost invariant = { λ located. located.place ≤ 131070 };
+
+    ghost inverse = { λ located. record { least = located.least; place = located.place } };
+}
+
+// Where MathVariants has, from its beginning, what belongs to an axis: the offset of a coverage table, and the count of construction offsets.
+#[derive(Clone, Copy)]
+struct AxisFields {
+    coverage: u32,
+    count: u32,
+}
+
+// The subtable MathVariants as it is read for a key.
+#[derive(Clone, Copy)]
+struct MathVariants<'a> {
+    reader: Reader<'a>,
+    // Where it begins.
+    base: u16,
+}
+
+impl MathVariants<'_> {
+    fn fields(&self) -> AxisFields
+        ensures coverage { result.coverage ≡ coverage_offset self.now.reader.key.axis }
+        ensures count { result.count ≡ count_offset self.now.reader.key.axis }
+    {
+        match self.reader.key.axis {
+            Axis::Upright => AxisFields {
+                coverage: 2,
+                count: 6,
+            },
+            Axis::Level => AxisFields {
+                coverage: 4,
+                count: 8,
+            },
+        }
+    }
+
+    // The index of the key's glyph in the coverage of its axis.
+    fn covered_index(&self) -> Result<Option<u32>, Fault>
+        ensures { let r = self.now.reader in result ≡ covered r.table.now r.key self.now.base }
+    {
+        let base = u32::from(self.base);
+        let offset = self.reader.word(base + self.fields().coverage)?;
+        if offset == 0 {
+            return Ok(None);
+        }
+        self.reader.coverage_index(base + u32::from(offset))
+    }
+
+    // How many construction offsets stand before those of the key's axis.
+    fn offsets_before(&self) -> Result<u16, Fault>
+        ensures { let r = self.now.reader in
+            result ≡ skipped r.table.now r.key self.now.base r.key.axis }
+    {
+        match self.reader.key.axis {
+            Axis::Upright => Ok(0),
+            Axis::Level => self.reader.word(u32::from(self.base) + 6),
+        }
+    }
+
+    // The construction offset at an index of the key's axis.
+    fn construction_offset(&self, index: u32) -> Result<u16, Fault>
+        ensures { let r = self.now.reader in
+            result ≡ construction_offset r.table.now r.key self.now.base index }
+    {
+        let base = u32::from(self.base);
+        let place = base + self.fields().count;
+        let count = self.reader.word(place)?;
+        if index >= u32::from(count) {
+            return Err(fault(Cause::CoverageIndex, self.reader.key, place));
+        }
+        let before = self.offsets_before()?;
+        self.reader
+            .word(base + 10 + 2 * (u32::from(before) + index))
+    }
+
+    // The way to the key's construction.
+    fn locate(&self) -> Result<Option<Located>, Fault>
+        ensures { let r = self.now.reader in result ≡ located_from r.table.now r.key self.now.base }
+    {
+        let base = u32::from(self.base);
+        let least = self.reader.word(base)?;
+        let Some(index) = self.covered_index()? else {
+            return Ok(None);
+        };
+        let offset = self.construction_offset(index)?;
+        if offset == 0 {
+            return Ok(None);
+        }
+        Ok(Some(Located {
+            least,
+            place: base + u32::from(offset),
+        }))
     }
 }
 
-fn count_offset(axis: Axis) -> u32
-    ensures { result ≡ count_offset axis }
-{
-    match axis {
-        Axis::Upright => 6,
-        Axis::Level => 8,
+impl Reader<'_> {
+    // The way from the header to the key's construction.
+    pub(crate) fn locate(&self) -> Result<Option<Located>, Fault>
+        ensures { result ≡ located self.now.table.now self.now.key }
+    {
+        if self.table.is_empty() {
+            return Ok(None);
+        }
+        let base = self.word(8)?;
+        if base == 0 {
+            return Ok(None);
+        }
+        MathVariants {
+            reader: *self,
+            base,
+        }
+        .locate()
     }
-}
-
-// The index of the key's glyph in the coverage of its axis.
-fn covered_index(table: &[u8], key: Key, base: u16) -> Result<Option<u32>, Fault>
-    ensures { result ≡ covered table.now key base }
-{
-    let base = u32::from(base);
-    let offset = word_at(table, key, base + coverage_offset(key.axis))?;
-    if offset == 0 {
-        return Ok(None);
-    }
-    coverage_index(table, key, base + u32::from(offset))
-}
-
-// How many construction offsets stand before those of the key's axis.
-fn offsets_before(table: &[u8], key: Key, base: u16) -> Result<u16, Fault>
-    ensures { result ≡ skipped table.now key base key.axis }
-{
-    match key.axis {
-        Axis::Upright => Ok(0),
-        Axis::Level => word_at(table, key, u32::from(base) + 6),
-    }
-}
-
-// The construction offset at an index of the key's axis.
-fn construction_offset(table: &[u8], key: Key, base: u16, index: u32) -> Result<u16, Fault>
-    ensures { result ≡ construction_offset table.now key base index }
-{
-    let place = u32::from(base) + count_offset(key.axis);
-    let count = word_at(table, key, place)?;
-    if index >= u32::from(count) {
-        return Err(fault(Cause::CoverageIndex, key, place));
-    }
-    let before = offsets_before(table, key, base)?;
-    word_at(
-        table,
-        key,
-        u32::from(base) + 10 + 2 * (u32::from(before) + index),
-    )
-}
-
-// The way from MathVariants, which begins at `base`, to the key's construction.
-fn locate_from(table: &[u8], key: Key, base: u16) -> Result<Option<Located>, Fault>
-    ensures value { result ≡ located_from table.now key base }
-    ensures near { IfOk result (λ o. IfSome o (λ l. l.place ≤ 131070)) }
-{
-    let least = word_at(table, key, u32::from(base))?;
-    let Some(index) = covered_index(table, key, base)? else {
-        return Ok(None);
-    };
-    let offset = construction_offset(table, key, base, index)?;
-    if offset == 0 {
-        return Ok(None);
-    }
-    Ok(Some(Located {
-        least,
-        place: u32::from(base) + u32::from(offset),
-    }))
-}
-
-// The way from the header to the key's construction.
-pub(crate) fn locate(table: &[u8], key: Key) -> Result<Option<Located>, Fault>
-    ensures value { result ≡ located table.now key }
-    ensures near { IfOk result (λ o. IfSome o (λ l. l.place ≤ 131070)) }
-{
-    if table.is_empty() {
-        return Ok(None);
-    }
-    let base = word_at(table, key, 8)?;
-    if base == 0 {
-        return Ok(None);
-    }
-    locate_from(table, key, base)
 }

@@ -1,13 +1,13 @@
-ghost use Rattle.std.specs.Prelude.{◌≡◌, ℕ, ◌≤◌, IfSome, IfOk};
+ghost use Rattle.std.specs.Prelude.{◌≡◌, ℕ};
 ghost use Rattle.face.specs.Meaning.{looked, variant_at, part_at};
 ghost use Rattle.math_table.specs.Limits.{word_largest, bounded_math};
 ghost use Rattle.math_table.specs.Making.{well_formed, Making, meant};
 ghost use Rattle.math_table.specs.Reading.{LARGEST_WORD as the_largest_word};
 ghost use Rattle.math_table.specs.Shapes.{shape_look, shape_variant, shape_part, found_variant, found_part};
 
-use crate::entries::{part_at, variant_at};
 use crate::found::Found;
-use crate::shapes::{Shape, shape_of};
+use crate::shapes::Shape;
+use crate::words::Reader;
 use face::{Face, Fault, Key, LARGEST, Look, Part, Variant};
 
 // Every length in a table is a word, and this the largest.
@@ -50,14 +50,24 @@ impl<'a> MathTable<'a> {
         }
     }
 
+    // The table as it is read for a key.
+    fn reader(&self, key: Key) -> Reader<'a>
+        ensures { result ≡ record { table = self.now.table; key = key } }
+    {
+        Reader {
+            table: self.table,
+            key,
+        }
+    }
+
     // Where the key's construction stands, if it has one: enough to answer every question.
+    #[tactic(auto, using(crate::proofs::Agreeing::shape_answers))]
     fn shape(&self, key: Key) -> Result<Option<Shape>, Fault>
         ensures look { looked (meant self.now key) ≡ shape_look result }
         ensures variants { (i : ℕ) → variant_at (meant self.now key) i ≡ shape_variant self.now key result i }
         ensures parts { (i : ℕ) → part_at (meant self.now key) i ≡ shape_part self.now key result i }
-        ensures near { IfOk result (λ o. IfSome o (λ s. (s.variants.first ≤ 262144) × (s.parts.first ≤ 262144))) }
     {
-        shape_of(self.table, key)
+        self.reader(key).shape()
     }
 }
 
@@ -98,31 +108,13 @@ impl<'a> Face for MathTable<'a> {
     }
 
     fn variant_of(&self, found: Found, index: u16) -> Option<Variant> {
-        let run = found.variants;
-        if index >= run.count {
-            return None;
-        }
-        variant_at(
-            self.table,
-            self.face,
-            found.key,
-            run.first + 4 * u32::from(index),
-        )
-        .ok()
+        let place = found.variants.place(4, index)?;
+        self.reader(found.key).variant_at(self.face, place).ok()
     }
 
     fn part_of(&self, found: Found, index: u16) -> Option<Part> {
-        let run = found.parts;
-        if index >= run.count {
-            return None;
-        }
-        part_at(
-            self.table,
-            self.face,
-            found.key,
-            run.first + 10 * u32::from(index),
-        )
-        .ok()
+        let place = found.parts.place(10, index)?;
+        self.reader(found.key).part_at(self.face, place).ok()
     }
 
     fn longest(&self) -> u32 {

@@ -1,4 +1,4 @@
-ghost use Rattle.std.specs.Prelude.{◌≡◌, ◌+◌, ◌*◌, ◌≤◌};
+ghost use Rattle.std.specs.Prelude.{◌≡◌, ◌+◌, ◌*◌, ◌^◌, ◌<◌};
 ghost use Rattle.math_table.specs.Reading.{word_at, word, fault_at};
 ghost use Rattle.math_table.specs.Shapes.{words_inside};
 
@@ -34,25 +34,33 @@ pub(crate) fn fault(cause: Cause, key: Key, place: u32) -> Fault
     }
 }
 
-// The word at a byte offset, read for a key.
-pub(crate) fn word_at(table: &[u8], key: Key, place: u32) -> Result<u16, Fault>
-    ensures { result ≡ word table.now key place }
-{
-    match first_word(tail_at(table, place)) {
-        Some(word) => Ok(word),
-        None => Err(fault(Cause::OutsideTable, key, place)),
-    }
+// A table as it is read for a key.
+#[derive(Clone, Copy)]
+pub(crate) struct Reader<'a> {
+    pub(crate) table: &'a [u8],
+    pub(crate) key: Key,
 }
 
-// Are so many words from `first` on inside the table? They lie side by side, so its length tells.
-pub(crate) fn words_inside(table: &[u8], key: Key, words: u32, first: u32) -> Result<(), Fault>
-    requires { first + 2 * words ≤ 1048576 }
-    ensures { result ≡ words_inside table.now key words first }
-{
-    let whole = table.len().saturating_sub(first as usize) / 2;
-    if words as usize <= whole {
-        Ok(())
-    } else {
-        Err(fault(Cause::OutsideTable, key, first + 2 * whole as u32))
+impl Reader<'_> {
+    // The word at a byte offset.
+    pub(crate) fn word(&self, place: u32) -> Result<u16, Fault>
+        ensures { result ≡ word self.now.table.now self.now.key place }
+    {
+        let Reader { table, key } = *self;
+        first_word(tail_at(table, place)).ok_or_else(|| fault(Cause::OutsideTable, key, place))
+    }
+
+    // Are so many words from `first` on inside the table? They lie side by side, so its length tells.
+    #[tactic(auto, using(crate::proofs::SideBySide::told_by_length))]
+    pub(crate) fn words_inside(&self, words: u32, first: u32) -> Result<(), Fault>
+        requires { first + 2 * words < 2 ^ 32 }
+        ensures { result ≡ words_inside self.now.table.now self.now.key words first }
+    {
+        let whole = self.table.len().saturating_sub(first as usize) / 2;
+        if words as usize <= whole {
+            Ok(())
+        } else {
+            Err(fault(Cause::OutsideTable, self.key, first + 2 * whole as u32))
+        }
     }
 }

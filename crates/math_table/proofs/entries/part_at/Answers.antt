@@ -1,6 +1,0 @@
-use Rattle.std.proofs.Common.{rules}
-use Rattle.face.proofs.SameParts.{clamped_is}
-use Rattle.math_table.proofs.entries.part_at.Goals as goal
-
-pub returns : goal.returns
-returns c = let is = clamped_is _ _ _ _ _ _ c.new.result c.new.ensures in search rules
