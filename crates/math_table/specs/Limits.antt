@@ -1,7 +1,7 @@
 -- No construction that a table offers is too large: its counts and lengths are words. This is a proof: nothing in it has to be believed.
-use Rattle.std.specs.Prelude.{◌≡◌, ℕ, suc, ◌+◌, ◌*◌, ◌≤◌, true, false, cond, List, length, Some, None, Ok, Err, Option, Result, nat_le, refl}
+use Rattle.std.specs.Prelude.{◌≡◌, ℕ, suc, ◌+◌, ◌*◌, ◌≤◌, All, true, false, cond, List, length, Some, None, Ok, Err, Option, Result, nat_le, refl}
 use Rattle.std.proofs.Common.{arith, ap}
-use Rattle.std.specs.List.{AllByRecursion}
+use Rattle.std.proofs.lemmas.List.Elements.{All-nil, All-cons}
 use Rattle.std.specs.Option.{ok_or}
 use Rattle.face.specs.declared.faults.Cause.TheVariants.{OutsideTable}
 use Rattle.face.specs.declared.faults.Fault.{Fault}
@@ -27,7 +27,7 @@ any_option (Some x) = found tt
 
 -- as many entries as a word tells, and P of each
 abbrev Short : {X : Type 0} → (X → Type 0) → List X → Type 0
-Short P xs = AllByRecursion P xs × (length xs ≤ MOST)
+Short P xs = All P xs × (length xs ≤ MOST)
 
 module _ (table : List ℕ) (face : ℕ) (key : Key) where
   word_small : (place : ℕ) → Comes Any (λ w. w ≤ LARGEST_WORD) (word table key place)
@@ -54,7 +54,7 @@ module _ (table : List ℕ) (face : ℕ) (key : Key) where
   entries_short : {X : Type 0} {P : X → Type 0} {read : ℕ → Result X Fault} (size : ℕ) → ((place : ℕ) → Comes Any P (read place))
       → (n place : ℕ) → n ≤ MOST → Comes Any (Short P) (entries read size n place)
   entries_short {P} size reads n place small =
-      comes_so (comes_entries size (λ n place xs. AllByRecursion P xs × (length xs ≡ n)) (λ place. (tt, refl)) (λ n place x xs p rest. ((p, rest.0), ap suc rest.1)) reads n place)
+      comes_so (comes_entries size (λ n place xs. All P xs × (length xs ≡ n)) (λ place. (All-nil P, refl)) (λ n place x xs p rest. (All-cons P x xs p rest.0, ap suc rest.1)) reads n place)
       (λ xs all. (all.0, omega arith))
 
   variants_short : (place : ℕ) → Comes Any (Short (λ v. v.advance ≤ LARGEST_WORD)) (variant_list table face key place)
@@ -63,7 +63,7 @@ module _ (table : List ℕ) (face : ℕ) (key : Key) where
   parts_short : (place offset : ℕ) → Comes Any (Short (λ p. p.full ≤ LARGEST_WORD)) (assembly_parts table face key place offset)
   parts_short place offset =
       comes_if_zero offset
-      (λ _. answer (tt, omega arith))
+      (λ _. answer (All-nil _, omega arith))
       (λ _. comes_bind (word_small (place + offset + 4)) (λ n small. entries_short 10 part_small n (place + offset + 6) small))
 
   located_small : Comes Any (IfFound (Unit {0}) (λ l. l.least ≤ LARGEST_WORD)) (located table key)

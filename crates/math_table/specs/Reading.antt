@@ -6,6 +6,7 @@ use Rattle.face.specs.declared.faults.Cause.TheVariants.{OutsideTable}
 use Rattle.face.specs.declared.faults.Fault.{Fault}
 use Rattle.face.specs.declared.faults.Layer.TheVariants.{Math}
 use Rattle.face.specs.declared.keys.Key.{Key}
+use Rattle.face.specs.Faults.{found}
 
 -- the byte at an offset; it is below 256 as it is, and `% 256` says so of every list of numbers
 abbrev pub byte_at : List ℕ → ℕ → ℕ
@@ -22,7 +23,7 @@ LARGEST_WORD = 65535
 
 -- a fault of the table itself, at an offset
 abbrev pub fault_at : Cause → Key → ℕ → Fault
-fault_at cause key place = record { cause = cause; layer = Math; place = place; glyph = key.glyph; passed = 0 }
+fault_at = found Math
 
 -- a word that is read for a key: outside the table it is a fault
 abbrev pub word : List ℕ → Key → ℕ → Result ℕ Fault

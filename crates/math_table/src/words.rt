@@ -25,13 +25,7 @@ fn tail_at(table: &[u8], place: u32) -> &[u8]
 pub(crate) fn fault(cause: Cause, key: Key, place: u32) -> Fault
     ensures { result ≡ fault_at cause key place }
 {
-    Fault {
-        cause,
-        layer: Layer::Math,
-        place,
-        glyph: key.glyph,
-        passed: 0,
-    }
+    Fault::new(Layer::Math, cause, key, place)
 }
 
 // A table as it is read for a key.
