@@ -1,5 +1,5 @@
 -- The shape that the code works out agrees with what the table means.
-use Rattle.std.proofs.Common.{◌≡◌, ℕ, zero, suc, ◌+◌, ◌*◌, eqb, List, ◌∷◌, Some, None, Ok, Err, Option, Result, refl, mul-zero, mul-suc, arith}
+use Rattle.std.proofs.Common.{◌≡◌, ℕ, zero, suc, ◌+◌, ◌*◌, eqb, List, ◌∷◌, Some, None, Ok, Err, Option, Result, refl, ap, ◌∙◌, mul-zero, mul-suc, arith}
 use Rattle.face.specs.declared.faults.Fault.{Fault}
 use Rattle.face.specs.declared.keys.Key.{Key}
 use Rattle.face.specs.declared.parts.Part.{Part}
@@ -17,6 +17,10 @@ use Rattle.math_table.specs.Reading.{word, bind, on_found, entries}
 use Rattle.math_table.specs.Shapes.{words_inside, run, part_run, shape_at, shaped, shape_look, shape_variant, shape_part}
 use Rattle.math_table.proofs.Alike.{Alike, answers, fault, BothFind, nothing, found, alike_bind, alike_first, alike_second, alike_step, alike_if}
 use Rattle.math_table.proofs.Indexing.{entries_count, entry_is}
+
+bind_assoc : {X Y Z : Type 0} (r : Result X Fault) (next : X → Result Y Fault) (last : Y → Result Z Fault) → bind r (λ x. bind (next x) last) ≡ bind (bind r next) last
+bind_assoc (Ok x) next last = refl
+bind_assoc (Err f) next last = refl
 
 -- the list is what is read where the run stands
 abbrev Lists : {X : Type 0} → (ℕ → Result X Fault) → ℕ → List X → Run → Type 0
@@ -38,11 +42,7 @@ module _ (table : List ℕ) (key : Key) where
   inside_more (suc m) n place =
       let one : suc m + n ≡ suc (m + n) = omega arith in
       let on : place + 2 * suc m ≡ place + 2 + 2 * m = omega arith in
-      rw (one, on) (by (word table key place) _ _ _ (inside_more m n (place + 2)))
-    where
-      by : (w : Result ℕ Fault) (all some rest : Result (Unit {0}) Fault) → all ≡ bind some (λ _. rest) → bind w (λ _. all) ≡ bind (bind w (λ _. some)) (λ _. rest)
-      by (Ok x) all some rest h = h
-      by (Err f) all some rest h = refl
+      rw (one, on) (ap (λ all. bind (word table key place) (λ _. all)) (inside_more m n (place + 2)) ∙ bind_assoc (word table key place) _ _)
 
   module _ {X : Type 0} (read : ℕ → Result X Fault) (k : ℕ) (reads : (place : ℕ) → ReadInside k place (read place)) where
     -- entries of k words each are read exactly where their words are inside the table
@@ -78,22 +78,22 @@ module _ (table : List ℕ) (face : ℕ) (key : Key) where
   parts_agree place offset = alike_if (eqb offset 0) (answers refl) (run_agrees table key part 5 part_inside (place + offset + 4) (place + offset + 6))
 
   -- the construction is the one that stands where the shape says
-  record Shapes (c : Construction) (s : Shape) : Type 0 where
+  record StandsAt (c : Construction) (s : Shape) : Type 0 where
     limit : c.limit ≡ LARGEST
     least : c.least ≡ s.least
     variants : Lists variant 4 c.variants s.variants
     parts : Lists part 10 c.parts s.parts
 
-  shape_agrees : (l : Located) → Alike (BothFind Shapes) (construction_at table face key l) (shape_at table key l)
+  shape_agrees : (l : Located) → Alike (BothFind StandsAt) (construction_at table face key l) (shape_at table key l)
   shape_agrees l =
       alike_step (word table key l.place) (λ assembly.
       alike_bind (run_agrees table key variant 2 variant_inside (l.place + 2) (l.place + 4)) (λ _ _ variants.
       alike_bind (parts_agree l.place assembly) (λ _ _ parts.
       answers (found (record { limit = refl; least = refl; variants = variants; parts = parts })))))
 
-  agrees : Alike (BothFind Shapes) (offered table face key) (shaped table key)
+  agrees : Alike (BothFind StandsAt) (offered table face key) (shaped table key)
   agrees = alike_step (located table key) by where
-    by : (o : Option Located) → Alike (BothFind Shapes) (on_found o (construction_at table face key)) (on_found o (shape_at table key))
+    by : (o : Option Located) → Alike (BothFind StandsAt) (on_found o (construction_at table face key)) (on_found o (shape_at table key))
     by None = answers nothing
     by (Some l) = shape_agrees l
 
@@ -104,7 +104,7 @@ module _ (m : MathTable) (key : Key) where
 
   pub look_agrees : looked (meant m key) ≡ shape_look shape
   look_agrees = by (agrees m.table.now m.face key) where
-    by : {r : Result (Option Construction) Fault} {s : Result (Option Shape) Fault} → Alike (BothFind (Shapes m.table.now m.face key)) r s → looked (meaning_of r) ≡ shape_look s
+    by : {r : Result (Option Construction) Fault} {s : Result (Option Shape) Fault} → Alike (BothFind (StandsAt m.table.now m.face key)) r s → looked (meaning_of r) ≡ shape_look s
     by fault = refl
     by (answers nothing) = refl
     by (answers (found is)) =
@@ -114,14 +114,14 @@ module _ (m : MathTable) (key : Key) where
 
   pub variant_agrees : (i : ℕ) → variant_at (meant m key) i ≡ shape_variant m key shape i
   variant_agrees i = by (agrees m.table.now m.face key) where
-    by : {r : Result (Option Construction) Fault} {s : Result (Option Shape) Fault} → Alike (BothFind (Shapes m.table.now m.face key)) r s → variant_at (meaning_of r) i ≡ shape_variant m key s i
+    by : {r : Result (Option Construction) Fault} {s : Result (Option Shape) Fault} → Alike (BothFind (StandsAt m.table.now m.face key)) r s → variant_at (meaning_of r) i ≡ shape_variant m key s i
     by fault = refl
     by (answers nothing) = refl
     by (answers (found is)) = entry_is _ _ _ _ is.variants i
 
   pub part_agrees : (i : ℕ) → part_at (meant m key) i ≡ shape_part m key shape i
   part_agrees i = by (agrees m.table.now m.face key) where
-    by : {r : Result (Option Construction) Fault} {s : Result (Option Shape) Fault} → Alike (BothFind (Shapes m.table.now m.face key)) r s → part_at (meaning_of r) i ≡ shape_part m key s i
+    by : {r : Result (Option Construction) Fault} {s : Result (Option Shape) Fault} → Alike (BothFind (StandsAt m.table.now m.face key)) r s → part_at (meaning_of r) i ≡ shape_part m key s i
     by fault = refl
     by (answers nothing) = refl
     by (answers (found is)) = entry_is _ _ _ _ is.parts i

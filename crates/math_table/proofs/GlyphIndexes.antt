@@ -67,7 +67,7 @@ module _ (table : List ℕ) (key : Key) where
 
     module _ (format : Format) where
       none_holds : entry_index table key format place position ≡ Ok None → (index : ℕ) → Holds format place position index → ⊥
-      none_holds none index holds = let some = entry_to format index holds in let z : ◌≡◌ {A = ℕ} 0 1 = cc in omega arith
+      none_holds none index holds = let some = entry_to format index holds in cc
 
       none_read : place + entry_size format ≤ length table → ((index : ℕ) → Holds format place position index → ⊥) → entry_index table key format place position ≡ Ok None
       none_read inside not_here = by (entry_read format inside)

@@ -7,13 +7,14 @@ use Rattle.math_table.specs.Reading.{fault_at}
 use Rattle.math_table.specs.Shapes.{words_inside}
 
 module _ (table : List ℕ) (key : Key) where
+  -- as many words as the table still has are inside it
   pub all_inside : (n place : ℕ) → n ≤ (length table - place) / 2 → Ok tt ≡ words_inside table key n place
   all_inside zero place h = refl
   all_inside (suc n) place h =
       let here : leb (place + 2) (length table) ≡ true = le-leb _ _ (omega arith) in
       rw here (all_inside n (place + 2) (omega arith))
 
-  -- the whole words that the table still has come first
+  -- of more, the first one outside comes after those
   pub first_outside : (n place : ℕ) → (length table - place) / 2 < n → Err (fault_at OutsideTable key (place + 2 * ((length table - place) / 2))) ≡ words_inside table key n place
   first_outside zero place h = absurd (omega arith)
   first_outside (suc n) place h =

@@ -28,14 +28,14 @@ module _ {X N : Type 0} {P : X → Type 0} where
     comes_or_else (found p) so else = answer (found (so _ p))
 
     pub known_holds : {r : Result (Option X) Fault} {x : X} → Comes Q (IfFound N P) r → r ≡ Ok (Some x) → P x
-    known_holds (answer (nothing n)) e = absurd (grind arith)
+    known_holds (answer (nothing n)) e = cc
     known_holds {x} (answer (found {x = y} p)) e = let same : y ≡ x = cc in subst P same p
-    known_holds (fault q) e = absurd (grind arith)
+    known_holds (fault q) e = cc
 
     pub unknown_holds : {r : Result (Option X) Fault} → Comes Q (IfFound N P) r → r ≡ Ok None → N
     unknown_holds (answer (nothing n)) e = n
-    unknown_holds (answer (found p)) e = absurd (grind arith)
-    unknown_holds (fault q) e = absurd (grind arith)
+    unknown_holds (answer (found p)) e = cc
+    unknown_holds (fault q) e = cc
 
 module _ {X : Type 0} {P : X → Type 0} {Q : Fault → Type 0} where
   pub comes_with : {r : Result X Fault} → Comes Q P r → Comes Q (λ x. P x × (r ≡ Ok x)) r
@@ -44,10 +44,10 @@ module _ {X : Type 0} {P : X → Type 0} {Q : Fault → Type 0} where
 
   pub answer_holds : {r : Result X Fault} {x : X} → Comes Q P r → r ≡ Ok x → P x
   answer_holds {x} (answer {x = y} p) e = let same : y ≡ x = cc in subst P same p
-  answer_holds (fault q) e = absurd (grind arith)
+  answer_holds (fault q) e = cc
 
   pub fault_holds : {r : Result X Fault} {f : Fault} → Comes Q P r → r ≡ Err f → Q f
-  fault_holds (answer p) e = absurd (grind arith)
+  fault_holds (answer p) e = cc
   fault_holds {f} (fault {f = g} q) e = let same : g ≡ f = cc in subst Q same q
 
 -- n entries that were read from a place on: so many, and the one at i stands i sizes after the place
@@ -56,7 +56,7 @@ module _ {X : Type 0} (Is : ℕ → X → Type 0) (size : ℕ) where
   Stand n place xs = (length xs ≡ n) × ((i : ℕ) (x : X) → slice_get xs i ≡ Some x → Is (place + size * i) x)
 
   none_stand : (place : ℕ) → Stand 0 place []
-  none_stand place = (refl, λ i x e. absurd (grind arith))
+  none_stand place = (refl, λ i x e. cc)
 
   more_stand : (n place : ℕ) (x : X) (xs : List X) → Is place x → Stand n (place + size) xs → Stand (suc n) place (x ∷ xs)
   more_stand n place x xs is rest = (ap suc rest.0, at) where

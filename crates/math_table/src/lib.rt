@@ -6,6 +6,7 @@ mod coverages;
 mod entries;
 pub mod found;
 pub mod laws;
+mod located;
 mod locating;
 mod runs;
 mod shapes;

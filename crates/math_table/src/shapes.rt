@@ -1,7 +1,7 @@
 ghost use Rattle.std.specs.Prelude.{◌≡◌, ◌≤◌};
 ghost use Rattle.math_table.specs.Shapes.{run as run_at, part_run, shaped};
 
-use crate::locating::Located;
+use crate::located::Located;
 use crate::runs::Run;
 use crate::words::Reader;
 use face::Fault;
