@@ -1,19 +1,15 @@
 -- What is asked of a key that has a construction.
 use Rattle.std.proofs.Common.{◌≡◌, ℕ, ◌≤◌, cond, List, [], length, Some, Ok, Option, sym, ap, ◌∙◌}
-use Rattle.std.specs.Option.{option_map, ok_or, option_or}
 use Rattle.face.proofs.Looking.{look_finds}
 use Rattle.face.specs.declared.looks.Look.{Look}
 use Rattle.face.specs.declared.parts.Part.{Part}
 use Rattle.face.specs.declared.variants.Variant.{Variant}
 use Rattle.face.specs.Meaning.{Meaning, parts_of, part_at, variants_of, variant_at, looked}
 use Rattle.choice.specs.declared.placing.Piece.{Piece}
-use Rattle.choice.specs.declared.signs.Missing.TheVariants.{NothingFits}
-use Rattle.choice.specs.declared.signs.Sign.{Sign}
 use Rattle.choice.specs.declared.totals.Totals.{Totals}
 use Rattle.choice.specs.Assemblies.{MOST_PIECES, pieces}
-use Rattle.choice.specs.Choosing.{first_variant, assembly, repeats, choice}
 use Rattle.choice.specs.Pieces.{placed, in_span, assembled}
-use Rattle.choice.specs.Spans.{span, span_of}
+use Rattle.choice.specs.Spans.{span}
 use Rattle.choice.specs.Spreading.{overlaps}
 use Rattle.choice.specs.Totals.{Entries, Describes}
 use Rattle.choice.specs.Walking.{spread_over, excess_in}
@@ -29,23 +25,6 @@ module _ (m : Meaning) (look : Look) (known : looked m ≡ Ok (Some look)) where
   pub variants_told : (variant : ℕ → Option Variant) → ((i : ℕ) → variant_at m i ≡ variant i) → Entries look.variants variant (variants_of m)
   variants_told variant each =
       record { counted = look_finds (λ n. length (variants_of n) ≡ look.variants) m look known (λ c is. ap (λ l. l.variants) is); each = each }
-
-  -- the choice is a variant, or else an assembly
-  pub choice_known : (target : ℕ) (ready stacked : Option Sign) → ready ≡ first_variant target look.limit 0 (variants_of m)
-      → stacked ≡ option_map (assembly target (parts_of m)) (repeats look.least look.limit target (parts_of m))
-      → Ok (ok_or (option_or ready stacked) NothingFits) ≡ choice m target
-  choice_known target ready stacked is_ready is_stacked =
-      (λ i. Ok (ok_or (option_or (is_ready i) (is_stacked i)) NothingFits))
-      ∙ look_finds
-      (λ n. Ok (ok_or (option_or (first_variant target look.limit 0 (variants_of n)) (option_map (assembly target (parts_of n)) (repeats look.least look.limit target (parts_of n)))) NothingFits) ≡ choice n target)
-      m look known
-      (λ c is. ap (λ l. Ok (ok_or (option_or (first_variant target l.limit 0 c.variants) (option_map (assembly target c.parts) (repeats l.least l.limit target c.parts))) NothingFits)) (sym is))
-
-  pub span_known : (t : Totals) (r : ℕ) (found : Option (ℕ × ℕ)) → t.least ≡ look.least → Describes t (parts_of m)
-      → ((parts : List Part) → Describes t parts → found ≡ span t.least parts r) → Ok found ≡ span_of m r
-  span_known t r found least_is d is =
-      ap Ok (is (parts_of m) d ∙ ap (λ n. span n (parts_of m) r) least_is)
-      ∙ look_finds (λ n. Ok (span look.least (parts_of n) r) ≡ span_of n r) m look known (λ c sum. ap (λ l. Ok (span l.least c.parts r)) (sym sum))
 
   pub assembled_known : (t : Totals) (r z e : ℕ) (found : Option (ℕ × ℕ)) (ps : List Piece) → t.least ≡ look.least → Describes t (parts_of m)
       → ((parts : List Part) → Describes t parts → found ≡ span t.least parts r) → Some e ≡ excess_in found z

@@ -6,8 +6,8 @@ ghost use Rattle.choice.specs.Totals.{Entries};
 ghost use Rattle.choice.specs.Unbettered.{Unbettered};
 
 use crate::reading::{tally, variant_at};
-use crate::signs::{Missing, Sign};
-use face::{Face, Fault, Key, Look};
+use crate::signs::{Missing, NoSign, Sign};
+use face::{Face, Key, Look};
 
 // Is a size at least the target, and at most the limit?
 fn fits(size: u32, target: u64, limit: u32) -> bool
@@ -37,17 +37,18 @@ fn first_variant<F: Face>(
 
 // The sign that a key takes for a target: the first variant that fits, or else the assembly of the fewest repeats that
 // fits, with the smallest size.
-pub fn choose<F: Face>(face: &F, key: Key, target: u64) -> Result<Result<Sign, Missing>, Fault>
+#[tactic(auto, using(crate::proofs::Unbettering::the_choice_is_unbettered))]
+pub fn choose<F: Face>(face: &F, key: Key, target: u64) -> Result<Sign, NoSign>
     ensures value { result ≡ choice (F.Face.meaning face.now key) target }
     ensures unbettered { Unbettered (F.Face.meaning face.now key) target result }
 {
-    let Some(look) = face.look(key)? else {
-        return Ok(Err(Missing::Unknown));
-    };
+    let look = face.look(key)?.ok_or(Missing::Unknown)?;
     let found = face.find(key);
     if let Some(sign) = first_variant(face, found, look, target) {
-        return Ok(Ok(sign));
+        return Ok(sign);
     }
-    let assembly = tally(face, found, look).seek(look.limit, target);
-    Ok(assembly.ok_or(Missing::NothingFits))
+    let sign = tally(face, found, look)
+        .seek(look.limit, target)
+        .ok_or(Missing::NothingFits)?;
+    Ok(sign)
 }

@@ -18,5 +18,5 @@ mod walks;
 pub use choosing::choose;
 pub use levels::level;
 pub use placing::{Piece, Pieces};
-pub use signs::{Missing, Sign};
+pub use signs::{Missing, NoSign, Sign};
 pub use spans::span;
