@@ -51,21 +51,21 @@ impl Entry for Part {
 
 // The entries that are still to come. A contract sees them as that list.
 #[derive(Drop)]
-pub struct Entries<'o, 'a, F: Face, E: Entry> {
-    offer: &'o Offer<'a, F>,
+pub struct Entries<'a, F: Face, E: Entry> {
+    offer: Offer<'a, F>,
     indexes: Range<u16>,
     kind: PhantomData<E>,
 }
 
-impl<'o, 'a, F: Face, E: Entry> Model for Entries<'o, 'a, F, E> {
+impl<'a, F: Face, E: Entry> Model for Entries<'a, F, E> {
     ghost Value = { List E };
 
-    ghost view = { λ s. drop s.indexes.start (E.list s.offer.now) };
+    ghost view = { λ s. drop s.indexes.start (E.list s.offer) };
 
-    ghost invariant = { λ s. s.indexes.end ≡ length (E.list s.offer.now) };
+    ghost invariant = { λ s. s.indexes.end ≡ length (E.list s.offer) };
 }
 
-impl<'o, 'a, F: Face, E: Entry> Iterator for Entries<'o, 'a, F, E> {
+impl<'a, F: Face, E: Entry> Iterator for Entries<'a, F, E> {
     type Item = E;
 
     ghost next_gives = { YieldsFirst (λ s. s) };
@@ -73,17 +73,17 @@ impl<'o, 'a, F: Face, E: Entry> Iterator for Entries<'o, 'a, F, E> {
     ghost remaining = { item_count (λ s. s) };
 
     fn next(&mut self) -> Option<E> {
-        E::at(self.offer, self.indexes.next()?)
+        E::at(&self.offer, self.indexes.next()?)
     }
 }
 
 impl<'a, F: Face> Offer<'a, F> {
-    // All variants, or all parts, of the construction.
-    pub fn entries<'o, E: Entry>(&'o self) -> Entries<'o, 'a, F, E>
+    // All variants, or all parts, of the construction. They outlive the offer: both only lend the face.
+    pub fn entries<E: Entry>(&self) -> Entries<'a, F, E>
         ensures { result ≡ E.list self.now }
     {
         Entries {
-            offer: self,
+            offer: self.again(),
             indexes: 0..E::count(self),
             kind: PhantomData,
         }

@@ -46,6 +46,24 @@ impl<'a, F: Face> Offer<'a, F> {
         }))
     }
 
+    // The same once more.
+    pub(crate) fn again(&self) -> Offer<'a, F>
+        ensures { result ≡ self.now }
+    {
+        let &Offer {
+            face,
+            key,
+            look,
+            found,
+        } = self;
+        Offer {
+            face,
+            key,
+            look,
+            found,
+        }
+    }
+
     // The construction without its entries.
     pub fn look(&self) -> Look
         ensures { result ≡ summary self.now }
