@@ -4,7 +4,7 @@ use Rattle.std.proofs.lemmas.Bool.{ne_eqb}
 use Rattle.face.specs.declared.parts.Part.{Part}
 use Rattle.choice.specs.Assemblies.{total, sum, pieces, extenders, most, mosts_from, mosts}
 use Rattle.choice.specs.Spans.{roomy}
-use Rattle.choice.specs.Totals.{sums_of, gains_of, grown}
+use Rattle.choice.specs.Sums.{sums_of, gains_of, grown}
 use Rattle.choice.proofs.Bools.{and_true, and_assoc, and_same, and_shuffle}
 use Rattle.choice.proofs.Repeating.{nothing, after_nothing}
 

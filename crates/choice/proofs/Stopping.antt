@@ -4,13 +4,15 @@ use Rattle.std.proofs.lemmas.Bool.{cond_both, cond-false, ltb-true, lt-leb, or_c
 use Rattle.std.specs.Option.{option_map}
 use Rattle.face.proofs.Indexes.{none_is_not_some}
 use Rattle.face.specs.declared.parts.Part.{Part}
+use Rattle.face.specs.Meaning.{Construction}
 use Rattle.choice.specs.declared.signs.Sign.TheVariants.{Assembly}
-use Rattle.choice.specs.declared.totals.Sums.{Sums}
+use Rattle.choice.specs.declared.sums.Sums.{Sums}
 use Rattle.choice.specs.declared.totals.Totals.{Totals}
 use Rattle.choice.specs.Assemblies.{MOST_PIECES, pieces}
 use Rattle.choice.specs.Choosing.{meets, reaches, first, repeats, chosen_size, assembly}
 use Rattle.choice.specs.Spans.{smallest, largest, possible, span}
-use Rattle.choice.specs.Totals.{Describes, SumsAt, NoneFrom, sums_of, span_of_sums, past, fitting_size}
+use Rattle.choice.specs.Sums.{sums_of, span_of_sums, past, fitting_size}
+use Rattle.choice.specs.Totals.{Describes, SumsAt, NoneFrom}
 use Rattle.choice.proofs.Repeating.{more_repeats_are_never_smaller, more_repeats_more_pieces}
 use Rattle.choice.proofs.Spanning.{span_at, too_many}
 use Rattle.choice.proofs.Taking.{first_yes, first_no, first_none}
@@ -51,37 +53,37 @@ none_taken : {X : Type 0} (b : Bool) (x : X) → None ≡ cond b (Some x) None �
 none_taken true x e = absurd (none_is_not_some e)
 none_taken false x e = refl
 
-module _ (t : Totals) (limit target r : ℕ) (parts : List Part) (d : Describes t parts)
-    (left : first (reaches t.least limit target parts) r (4097 - r) ≡ repeats t.least limit target parts) where
+module _ (t : Totals) (limit target r : ℕ) (c : Construction) (d : Describes t c)
+    (left : first (reaches c.least limit target c.parts) r (4097 - r) ≡ repeats c.least limit target c.parts) where
   abbrev test : ℕ → Bool
-  test = reaches t.least limit target parts
+  test = reaches c.least limit target c.parts
 
   -- no count from here on reaches the target
-  ends : ((k : ℕ) → r ≤ k → test k ≡ false) → None ≡ option_map (assembly target parts) (repeats t.least limit target parts)
-  ends fails = ap (option_map (assembly target parts)) (sym (first_none test r (4097 - r) fails) ∙ left)
+  ends : ((k : ℕ) → r ≤ k → test k ≡ false) → None ≡ option_map (assembly target c.parts) (repeats c.least limit target c.parts)
+  ends fails = ap (option_map (assembly target c.parts)) (sym (first_none test r (4097 - r) fails) ∙ left)
 
-  pub ends_none : NoneFrom t r → None ≡ option_map (assembly target parts) (repeats t.least limit target parts)
-  ends_none none = ends (λ k low. not_possible t.least limit target parts k (none parts d k low))
+  pub ends_none : NoneFrom t r → None ≡ option_map (assembly target c.parts) (repeats c.least limit target c.parts)
+  ends_none none = ends (λ k low. not_possible c.least limit target c.parts k (none c d k low))
 
   module _ (s : Sums) (at : SumsAt t r s) where
-    fitting_is : fitting_size target limit (span_of_sums t.least s) ≡ cond (test r) (Some (chosen_size target parts r)) None
-    fitting_is = ap (fitting_size target limit) (span_at t r s at parts d) ∙ fitting_span t.least limit target parts r
+    fitting_is : fitting_size target limit (span_of_sums t.least s) ≡ cond (test r) (Some (chosen_size target c.parts r)) None
+    fitting_is = ap (fitting_size target limit) (span_at t r s at c d) ∙ fitting_span c.least limit target c.parts r
 
-    pub ends_past : past limit s ≡ true → None ≡ option_map (assembly target parts) (repeats t.least limit target parts)
-    ends_past is = ends (none_past t.least limit target parts r (ap (past limit) (sym (at.are parts d).1) ∙ is))
+    pub ends_past : past limit s ≡ true → None ≡ option_map (assembly target c.parts) (repeats c.least limit target c.parts)
+    ends_past is = ends (none_past c.least limit target c.parts r (ap (past limit) (sym (at.are c d).1) ∙ is))
 
     -- the count here reaches the target
     pub ends_found : (z : ℕ) → Some z ≡ fitting_size target limit (span_of_sums t.least s)
-        → Some (Assembly r z s.pieces) ≡ option_map (assembly target parts) (repeats t.least limit target parts)
+        → Some (Assembly r z s.pieces) ≡ option_map (assembly target c.parts) (repeats c.least limit target c.parts)
     ends_found z fits =
-        let f = some_taken (test r) (chosen_size target parts r) z (fits ∙ fitting_is) in
-        let found : Some r ≡ repeats t.least limit target parts
+        let f = some_taken (test r) (chosen_size target c.parts r) z (fits ∙ fitting_is) in
+        let found : Some r ≡ repeats c.least limit target c.parts
         = sym (first_yes test r (4097 - r) (omega (arith, at.low)) f.0) ∙ left in
-        (λ i. Some (Assembly r (f.1 i) ((at.are parts d).1 i).pieces)) ∙ ap (option_map (assembly target parts)) found
+        (λ i. Some (Assembly r (f.1 i) ((at.are c d).1 i).pieces)) ∙ ap (option_map (assembly target c.parts)) found
 
     -- it does not, and the search goes on
     pub goes_on : None ≡ fitting_size target limit (span_of_sums t.least s)
-        → first test (r + 1) (4097 - (r + 1)) ≡ repeats t.least limit target parts
+        → first test (r + 1) (4097 - (r + 1)) ≡ repeats c.least limit target c.parts
     goes_on misfits =
-        let fails : test r ≡ false = none_taken (test r) (chosen_size target parts r) (misfits ∙ fitting_is) in
+        let fails : test r ≡ false = none_taken (test r) (chosen_size target c.parts r) (misfits ∙ fitting_is) in
         sym (first_no test r (4097 - r) (4097 - (r + 1)) (omega (arith, at.low)) fails) ∙ left

@@ -1,7 +1,7 @@
 // The joints of an assembly, stretched one after the other.
 ghost use Rattle.std.specs.Prelude.{◌≡◌, List, ◌∷◌};
 ghost use Rattle.face.specs.declared.parts.Part.{Part as ThePart};
-ghost use Rattle.choice.specs.Walking.{Overlaps, placed_by};
+ghost use Rattle.choice.specs.Walking.{Overlaps, placed_by, unjoined};
 
 use crate::placing::Piece;
 use face::Part;
@@ -10,26 +10,34 @@ use face::Part;
 // level by one more, while units are lacking.
 #[derive(Clone, Copy)]
 pub(crate) struct Joints {
-    pub(crate) least: u32,
-    pub(crate) level: u32,
-    pub(crate) lacking: u64,
+    least: u32,
+    level: u32,
+    lacking: u64,
     // The piece that the next one joins.
-    pub(crate) former: Option<Part>,
+    former: Option<Part>,
 }
 
 impl Joints {
+    // Before the first piece.
+    pub(crate) fn new(least: u32, level: u32, lacking: u64) -> Joints
+        ensures { result ≡ unjoined least level lacking }
+    {
+        Joints {
+            least,
+            level,
+            lacking,
+            former: None,
+        }
+    }
+
     // The overlap of the next joint, which can overlap by so much at the most.
     fn overlap(&mut self, most: u32) -> u32
         ensures { Overlaps self.old most result self.new }
     {
         let slack = most.saturating_sub(self.least);
-        let more = if slack > self.level && self.lacking > 0 {
-            1
-        } else {
-            0
-        };
+        let more = u32::from(slack > self.level && self.lacking > 0);
         self.lacking -= u64::from(more);
-        most - slack.min(self.level) - more
+        most.saturating_sub(slack.min(self.level) + more)
     }
 
     // The next piece, where it is placed.

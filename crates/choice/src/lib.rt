@@ -3,15 +3,15 @@
 #![tactic(auto)]
 
 pub mod choosing;
-mod cursors;
 mod joints;
 pub mod laws;
 pub mod levels;
 pub mod placing;
-mod reading;
 pub mod signs;
 mod slacks;
 pub mod spans;
+mod stacks;
+mod sums;
 mod totals;
 mod walks;
 

@@ -11,4 +11,4 @@ returns-then-repeats-gt-MOST_PIECES c =
 
 pub returns : goal.returns
 returns c =
-    more_at c.args.self c.args.repeats c.with.result (omega arith) (omega arith) c.if-self-eq0.false c.with.ensures
+    more_at c.args.self c.args.repeats c.repeated.result (omega arith) (omega arith) c.if-self-eq0.false c.repeated.ensures

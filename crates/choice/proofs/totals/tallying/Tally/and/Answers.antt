@@ -1,11 +1,9 @@
-use Rattle.std.proofs.Common.{refl}
 use Rattle.choice.proofs.Tallying.{fixed_added, small_more}
-use Rattle.choice.proofs.totals.Totals.and.Goals as goal
+use Rattle.choice.proofs.totals.tallying.Tally.and.Goals as goal
 
 pub returns-else-part : goal.returns-else-part
 returns-else-part c =
     record {
-      least = refl;
       more = fixed_added c.args.self c.args.part c.and-once.result c.and-once.ensures.sums c.and-none.result
           c.if-part.false c.and-none.ensures.sums;
       small = λ n h. record {
