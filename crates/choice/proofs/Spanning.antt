@@ -60,10 +60,7 @@ module _ (t : Totals) (r : ℕ) where
       let are = at.are c d in
       (λ i. span_of_sums (d.least_is i) (are.1 i)) ∙ span_from_sums c.least c.parts r are.0
 
-  -- the sums at no repeat, and at one and more
-  pub none_at : r ≡ 0 → SumsAt t r t.none
-  none_at is = rw is (record { low = omega arith; are = λ c d. (omega arith, d.none_is) })
-
+  -- the sums at one repeat and more
   pub more_at : (s : Sums) → 1 ≤ r → r ≤ MOST_PIECES → (t.more.pieces ≡ 0 → ⊥) → s ≡ grown t.once t.more (r - 1) → SumsAt t r s
   more_at s low high some is = record {
     low = high;

@@ -1,17 +1,14 @@
 -- The sums of one pass over the parts, part by part.
-use Rattle.std.proofs.Common.{◌≡◌, ℕ, suc, ◌+◌, ◌≤◌, Bool, true, false, cond, ◌&&◌, leb, List, [], ◌∷◌, ◌++◌, map, length, replicate, Some, None, Option, sym, refl, ap, ◌∙◌, arith}
-use Rattle.std.proofs.lemmas.Bool.{cond-true, cond-false}
+use Rattle.std.proofs.Common.{◌≡◌, ℕ, suc, ◌+◌, ◌≤◌, false, cond, ◌&&◌, leb, List, ◌∷◌, ◌++◌, map, length, replicate, Some, None, Option, sym, ap, ◌∙◌, arith}
+use Rattle.std.proofs.lemmas.Bool.{cond-false}
 use Rattle.face.specs.declared.parts.Part.{Part}
-use Rattle.face.specs.Meaning.{Construction}
 use Rattle.choice.specs.declared.sums.Sums.{Sums}
-use Rattle.choice.specs.declared.totals.Totals.{Totals}
 use Rattle.choice.specs.declared.totals.tallying.Tally.{Tally}
 use Rattle.choice.specs.Assemblies.{total, sum, pieces, extenders, most, mosts_from}
 use Rattle.choice.specs.Spans.{roomy}
 use Rattle.choice.specs.Sums.{Small, added}
-use Rattle.choice.specs.Tallying.{followed, gained, completed, no_parts}
-use Rattle.choice.specs.Totals.{Describes}
-use Rattle.choice.proofs.Bools.{and_true, and_assoc}
+use Rattle.choice.specs.Tallying.{followed, gained, completed}
+use Rattle.choice.proofs.Bools.{and_assoc}
 
 -- a piece added, and then those behind it
 followed_more : (least : ℕ) (s : Sums) (former : Option Part) (p : Part) (ps : List Part)
@@ -38,15 +35,6 @@ module _ (t : Tally) (p : Part) (once : Sums) (once_is : once ≡ added t.least 
   once_more : (ps : List Part) → followed t.least once (Some p) ps ≡ followed t.least t.once t.last (p ∷ ps)
   once_more ps = ap (λ s. followed t.least s (Some p) ps) once_is ∙ followed_more t.least t.once t.last p ps
 
-  -- an extender added: it stands in every row but that of no repeat
-  pub extender_added : (more : Sums) → p.extender ≡ true → more ≡ added t.least t.more (Some p) p
-      → (ps : List Part) → completed (record { least = t.least; none = t.none; once = once; more = more; fixed = t.fixed; last = Some p }) ps ≡ completed t (p ∷ ps)
-  extender_added more is more_is ps =
-      let stays : pieces 0 ps ≡ pieces 0 (p ∷ ps) = sym (ap (λ b. replicate (cond b 0 1) p ++ pieces 0 ps) is) in
-      let counts : p ∷ extenders ps ≡ extenders (p ∷ ps) = sym (cond-true p.extender (p ∷ extenders ps) (extenders ps) is) in
-      let gains = ap (λ s. gained t.least s (extenders ps)) more_is ∙ gained_more t.least t.more p (extenders ps) ∙ ap (gained t.least t.more) counts in
-      λ i. record { least = t.least; none = followed t.least t.none t.fixed (stays i); once = once_more ps i; more = gains i }
-
   -- any other part added: it stands in every row once
   pub fixed_added : (none : Sums) → p.extender ≡ false → none ≡ added t.least t.none t.fixed p
       → (ps : List Part) → completed (record { least = t.least; none = none; once = once; more = t.more; fixed = Some p; last = Some p }) ps ≡ completed t (p ∷ ps)
@@ -62,30 +50,3 @@ small_at n m s le h = record { few = omega (arith, h.few); short = omega (arith,
 
 pub small_more : (n : ℕ) (s : Sums) → Small n s → Small (n + 1) s
 small_more n s h = small_at n (n + 1) s (omega arith) h
-
--- sums with nothing behind them, which are those that come from nothing
-sums_are : (s : Sums) (n full mosts' : ℕ) (room : Bool)
-    → ◌≡◌ {A = Sums} (record { pieces = s.pieces + 0; full = s.full + 0; mosts = s.mosts + 0; roomy = s.roomy && true })
-    (record { pieces = 0 + n; full = 0 + full; mosts = 0 + mosts'; roomy = room })
-    → s ≡ record { pieces = n; full = full; mosts = mosts'; roomy = room }
-sums_are s n full mosts' room e =
-    let few : s.pieces ≡ n = omega (arith, ap (λ x. x.pieces) e) in
-    let long : s.full ≡ full = omega (arith, ap (λ x. x.full) e) in
-    let most_of : s.mosts ≡ mosts' = omega (arith, ap (λ x. x.mosts) e) in
-    let room_is : s.roomy ≡ room = sym (and_true s.roomy) ∙ ap (λ x. x.roomy) e in
-    λ i. record { pieces = few i; full = long i; mosts = most_of i; roomy = room_is i }
-
-followed_none : (least : ℕ) (s : Sums) (former : Option Part)
-    → followed least s former [] ≡ record { pieces = s.pieces + 0; full = s.full + 0; mosts = s.mosts + 0; roomy = s.roomy && true }
-followed_none least s None = refl
-followed_none least s (Some a) = refl
-
-pub described : (t : Totals) (d : Tally) (c : Construction) → completed d [] ≡ completed (no_parts c.least) c.parts
-    → t.least ≡ d.least → t.none ≡ d.none → t.once ≡ d.once → t.more ≡ d.more → Describes t c
-described t d c e least none once more =
-    record {
-      least_is = least ∙ ap (λ x. x.least) e;
-      none_is = none ∙ sums_are d.none _ _ _ _ (sym (followed_none d.least d.none d.fixed) ∙ ap (λ x. x.none) e);
-      once_is = once ∙ sums_are d.once _ _ _ _ (sym (followed_none d.least d.once d.last) ∙ ap (λ x. x.once) e);
-      more_is = more ∙ sums_are d.more _ _ _ _ (ap (λ x. x.more) e);
-    }
