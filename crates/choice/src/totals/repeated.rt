@@ -24,6 +24,7 @@ impl Totals {
     }
 
     // What the pieces at a repeat count add up to; none where no assembly is legal, at it or at a higher one.
+    #[tactic(auto, using(crate::proofs::Spanning::more_at))]
     pub(super) fn at(self, repeats: u32) -> Option<Sums>
         ensures { MatchOption result (NoneFrom self repeats) (SumsAt self repeats) }
     {
@@ -37,6 +38,7 @@ impl Totals {
     }
 
     // The smallest and the largest legal size at a repeat count; none where no assembly is legal.
+    #[tactic(auto, using(crate::proofs::Spanning::span_at))]
     pub(crate) fn span(self, repeats: u32) -> Option<(u64, u64)>
         ensures { (c : Construction) → Describes self c → result ≡ legal_sizes c.least c.parts repeats }
     {

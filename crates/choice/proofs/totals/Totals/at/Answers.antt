@@ -1,5 +1,5 @@
 use Rattle.std.proofs.Common.{⊎_elim, arith}
-use Rattle.choice.proofs.Spanning.{above_none, no_extender_none, more_at}
+use Rattle.choice.proofs.Spanning.{above_none, no_extender_none}
 use Rattle.choice.proofs.totals.Totals.at.Goals as goal
 
 pub returns-then-repeats-gt-MOST_PIECES : goal.returns-then-repeats-gt-MOST_PIECES
@@ -8,7 +8,3 @@ returns-then-repeats-gt-MOST_PIECES c =
     (above_none c.args.self c.args.repeats)
     (λ none. no_extender_none c.args.self c.args.repeats (omega arith) none.1)
     c.then-repeats-gt-MOST_PIECES.either
-
-pub returns : goal.returns
-returns c =
-    more_at c.args.self c.args.repeats c.repeated.result (omega arith) (omega arith) c.if-self-eq0.false c.repeated.ensures
