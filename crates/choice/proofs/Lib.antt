@@ -1,4 +1,3 @@
-pub mod Bools
 pub mod Filling
 pub mod Growing
 pub mod Laying

@@ -1,6 +1,6 @@
 -- The span at any repeat count, from the totals.
 use Rattle.std.proofs.Common.{◌≡◌, ℕ, zero, suc, ◌-◌, ◌*◌, ◌<◌, ◌≤◌, min, true, false, leb, List, [], ◌∷◌, map, length, sym, refl, ap, ◌∙◌, arith}
-use Rattle.std.proofs.lemmas.Bool.{le-leb}
+use Rattle.std.proofs.lemmas.Bool.{le-leb, false_from_ne_true}
 use Rattle.face.specs.declared.parts.Part.{Part}
 use Rattle.face.specs.Meaning.{Construction}
 use Rattle.choice.specs.declared.sums.Sums.{Sums}
@@ -9,7 +9,6 @@ use Rattle.choice.specs.Assemblies.{MOST_PIECES, sum, pieces, extenders, mosts_f
 use Rattle.choice.specs.Spans.{possible, span}
 use Rattle.choice.specs.Sums.{sums_of, grown, span_of_sums}
 use Rattle.choice.specs.Totals.{Describes, SumsAt, NoneFrom}
-use Rattle.choice.proofs.Bools.{refuted}
 use Rattle.choice.proofs.Growing.{sums_grow}
 use Rattle.choice.proofs.Sizing.{possible_parts}
 use Rattle.choice.proofs.Taking.{pieces_many}
@@ -32,11 +31,11 @@ span_from_sums least parts r exists =
 
 -- without an extender no count from 1 on is legal
 pub none_without : (least : ℕ) (parts : List Part) (k : ℕ) → length (extenders parts) ≡ 0 → 1 ≤ k → possible least parts k ≡ false
-none_without least parts k none more = refuted (possible least parts k) (λ can. omega (arith, (possible_parts least parts k can).exists))
+none_without least parts k none more = false_from_ne_true (possible least parts k) (λ can. omega (arith, (possible_parts least parts k can).exists))
 
 -- nor with too many pieces
 pub too_many : (least : ℕ) (parts : List Part) (k : ℕ) → MOST_PIECES < length (pieces k parts) → possible least parts k ≡ false
-too_many least parts k many = refuted (possible least parts k) (λ can. omega (arith, (possible_parts least parts k can).few))
+too_many least parts k many = false_from_ne_true (possible least parts k) (λ can. omega (arith, (possible_parts least parts k can).few))
 
 -- with more repeats than an assembly has pieces, none is legal
 none_above : (least : ℕ) (parts : List Part) (k : ℕ) → MOST_PIECES < k → possible least parts k ≡ false

@@ -1,10 +1,10 @@
 -- The assembly of a size, if there is one.
-use Rattle.std.proofs.Common.{◌≡◌, ℕ, suc, ◌-◌, ◌≤◌, Bool, true, false, cond, List, [], ◌∷◌, length, Some, None, sym, refl, ap, ◌∙◌, arith}
-use Rattle.face.proofs.Indexes.{none_is_not_some}
+use Rattle.std.proofs.Common.{◌≡◌, ℕ, suc, ◌-◌, ◌≤◌, true, List, [], ◌∷◌, length, Some, refl, ap, arith}
+use Rattle.std.proofs.lemmas.Bool.{true_from_ne_false}
 use Rattle.face.specs.declared.parts.Part.{Part}
 use Rattle.choice.specs.declared.slacks.TheConstants.{MOST_JOINTS}
 use Rattle.choice.specs.Assemblies.{pieces, mosts_from, mosts}
-use Rattle.choice.specs.Spans.{smallest, largest, possible, span}
+use Rattle.choice.specs.Spans.{possible, span}
 use Rattle.choice.specs.Walking.{excess_in}
 use Rattle.choice.proofs.Sizing.{possible_parts}
 
@@ -18,11 +18,7 @@ length_mosts (a ∷ ps) = omega (arith, length_mosts_from a ps)
 
 -- a size that lies in the span of a repeat count is the size of an assembly there
 possible_in_span : (least : ℕ) (parts : List Part) (r z e : ℕ) → Some e ≡ excess_in (span least parts r) z → possible least parts r ≡ true
-possible_in_span least parts r z e is = go (possible least parts r) refl
-  where
-    go : (b : Bool) → possible least parts r ≡ b → possible least parts r ≡ true
-    go true can = can
-    go false cannot = absurd (none_is_not_some (sym (is ∙ ap (λ b. excess_in (cond b (Some (smallest parts r, largest least parts r)) None) z) cannot)))
+possible_in_span least parts r z e is = true_from_ne_false (possible least parts r) (λ cannot. let none = rw cannot at is in cc)
 
 -- an assembly of such a size has few joints
 pub few_joints : (least : ℕ) (parts : List Part) (r z e : ℕ) → Some e ≡ excess_in (span least parts r) z → length (mosts (pieces r parts)) ≤ MOST_JOINTS

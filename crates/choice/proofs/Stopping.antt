@@ -1,8 +1,8 @@
 -- The search over repeat counts: where it stops, and what it has found then.
 use Rattle.std.proofs.Common.{◌≡◌, ℕ, ◌+◌, ◌-◌, ◌<◌, ◌≤◌, Bool, true, false, cond, ltb, List, length, Some, None, sym, refl, ap, ◌∙◌, ⊎_elim, arith}
-use Rattle.std.proofs.lemmas.Bool.{cond_both, cond-false, ltb-true, lt-leb, or_cases}
+use Rattle.std.proofs.lemmas.Bool.{cond_both, cond-true, cond-false, false_from_ne_true, ltb-true, lt-leb, or_cases}
+use Rattle.std.proofs.lemmas.Option.{cond_some}
 use Rattle.std.specs.Option.{option_map}
-use Rattle.face.proofs.Indexes.{none_is_not_some}
 use Rattle.face.specs.declared.parts.Part.{Part}
 use Rattle.face.specs.Meaning.{Construction}
 use Rattle.choice.specs.declared.signs.Sign.TheVariants.{Assembly}
@@ -44,15 +44,6 @@ module _ (least limit target : ℕ) (parts : List Part) where
       (λ can. refl)
       (λ cannot. refl)
 
--- which way a test went, by what it gave
-pub some_taken : {X : Type 0} (b : Bool) (x y : X) → Some y ≡ cond b (Some x) None → (b ≡ true) × (y ≡ x)
-some_taken true x y e = (refl, cc)
-some_taken false x y e = absurd (none_is_not_some (sym e))
-
-none_taken : {X : Type 0} (b : Bool) (x : X) → None ≡ cond b (Some x) None → b ≡ false
-none_taken true x e = absurd (none_is_not_some e)
-none_taken false x e = refl
-
 module _ (t : Totals) (limit target r : ℕ) (c : Construction) (d : Describes t c)
     (left : first (reaches c.least limit target c.parts) r (4097 - r) ≡ repeats c.least limit target c.parts) where
   abbrev test : ℕ → Bool
@@ -76,14 +67,14 @@ module _ (t : Totals) (limit target r : ℕ) (c : Construction) (d : Describes t
     pub ends_found : (z : ℕ) → Some z ≡ fitting_size target limit (span_of_sums t.least s)
         → Some (Assembly r z s.pieces) ≡ option_map (assembly target c.parts) (repeats c.least limit target c.parts)
     ends_found z fits =
-        let f = some_taken (test r) (chosen_size target c.parts r) z (fits ∙ fitting_is) in
+        let f = cond_some (test r) (chosen_size target c.parts r) z (sym (fits ∙ fitting_is)) in
         let found : Some r ≡ repeats c.least limit target c.parts
         = sym (first_yes test r (4097 - r) (omega (arith, at.low)) f.0) ∙ left in
-        (λ i. Some (Assembly r (f.1 i) ((at.are c d).1 i).pieces)) ∙ ap (option_map (assembly target c.parts)) found
+        (λ i. Some (Assembly r (sym f.1 i) ((at.are c d).1 i).pieces)) ∙ ap (option_map (assembly target c.parts)) found
 
     -- it does not, and the search goes on
     pub goes_on : None ≡ fitting_size target limit (span_of_sums t.least s)
         → first test (r + 1) (4097 - (r + 1)) ≡ repeats c.least limit target c.parts
     goes_on misfits =
-        let fails : test r ≡ false = none_taken (test r) (chosen_size target c.parts r) (misfits ∙ fitting_is) in
+        let fails : test r ≡ false = false_from_ne_true (test r) (λ reach. let found = misfits ∙ fitting_is ∙ cond-true (test r) _ None reach in cc) in
         sym (first_no test r (4097 - r) (4097 - (r + 1)) (omega (arith, at.low)) fails) ∙ left

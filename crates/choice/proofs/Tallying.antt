@@ -1,6 +1,7 @@
 -- The sums of one pass over the parts, part by part.
 use Rattle.std.proofs.Common.{◌≡◌, ℕ, suc, ◌+◌, ◌≤◌, false, cond, ◌&&◌, leb, List, ◌∷◌, ◌++◌, map, length, replicate, Some, None, Option, sym, ap, ◌∙◌, arith}
 use Rattle.std.proofs.lemmas.Bool.{cond-false}
+use Rattle.std.proofs.Math.Bool.{and_assoc}
 use Rattle.face.specs.declared.parts.Part.{Part}
 use Rattle.choice.specs.declared.sums.Sums.{Sums}
 use Rattle.choice.specs.declared.totals.tallying.Tally.{Tally}
@@ -8,7 +9,6 @@ use Rattle.choice.specs.Assemblies.{total, sum, pieces, extenders, most, mosts_f
 use Rattle.choice.specs.Spans.{roomy}
 use Rattle.choice.specs.Sums.{Small, added}
 use Rattle.choice.specs.Tallying.{followed, gained, completed}
-use Rattle.choice.proofs.Bools.{and_assoc}
 
 -- a piece added, and then those behind it
 followed_more : (least : ℕ) (s : Sums) (former : Option Part) (p : Part) (ps : List Part)

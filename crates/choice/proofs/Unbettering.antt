@@ -3,7 +3,6 @@ use Rattle.std.proofs.Common.{◌≡◌, ℕ, zero, suc, ◌+◌, ◌-◌, ◌<�
 use Rattle.std.proofs.lemmas.Bool.{cond_both, both_ways, leb-true, le-leb, and_parts, and_from}
 use Rattle.std.specs.Option.{option_map, ok_or, option_or}
 use Rattle.std.specs.List.{slice_get}
-use Rattle.face.proofs.Indexes.{none_is_not_some}
 use Rattle.face.specs.declared.variants.Variant.{Variant}
 use Rattle.face.specs.Meaning.{Meaning, unknown, faulty, construction, Construction}
 use Rattle.choice.specs.declared.signs.Missing.TheVariants.{Unknown, NothingFits}
@@ -60,7 +59,7 @@ module _ (target limit : ℕ) where
       earlier n before (suc j) w less at f = before j w (omega arith) at f
 
   pub first_variant_stands : (i : ℕ) (vs : List Variant) → MatchOption (first_variant target limit i vs) (NoneFits vs) (IsFound i vs)
-  first_variant_stands i [] = λ j w at f. none_is_not_some at
+  first_variant_stands i [] = λ j w at f. cc
   first_variant_stands i (v ∷ vs) =
       cond_both (fits target limit v.advance) (Some (ReadyMade i v)) (first_variant target limit (i + 1) vs)
       (λ o. MatchOption o (NoneFits (v ∷ vs)) (IsFound i (v ∷ vs)))
