@@ -1,10 +1,18 @@
 // The joints of an assembly, stretched one after the other.
 ghost use Rattle.std.specs.Prelude.{◌≡◌, List, ◌∷◌};
 ghost use Rattle.face.specs.declared.parts.Part.{Part as ThePart};
+ghost use Rattle.choice.specs.Assemblies.{most as the_most};
 ghost use Rattle.choice.specs.Walking.{Overlaps, placed_by, unjoined};
 
 use crate::placing::Piece;
 use face::Part;
+
+// By how much a part can overlap the one before it at the most.
+pub(crate) fn most(former: Part, part: Part) -> u32
+    ensures { result ≡ the_most former part }
+{
+    former.end.min(part.start)
+}
 
 // How the joints are stretched: each by the smaller of its slack and the level, and the first whose slack is above the
 // level by one more, while units are lacking.
@@ -47,7 +55,7 @@ impl Joints {
         let (overlap, distance) = match self.former {
             None => (0, 0),
             Some(former) => {
-                let overlap = self.overlap(former.end.min(part.start));
+                let overlap = self.overlap(most(former, part));
                 (overlap, former.full - overlap)
             }
         };

@@ -3,6 +3,7 @@ ghost use Rattle.std.specs.Prelude.{◌≡◌, ◌≤◌, length};
 ghost use Rattle.choice.specs.Assemblies.{mosts};
 ghost use Rattle.choice.specs.Spreading.{slacks as the_slacks};
 
+use crate::joints::most;
 use crate::walks::Walk;
 use arrayvec::ArrayVec;
 use face::{Face, Part};
@@ -19,7 +20,7 @@ pub(crate) fn slacks_of<F: Face>(walk: Walk<F>, least: u32) -> ArrayVec<u32, MOS
     let mut former: Option<Part> = None;
     for part in walk {
         if let Some(former) = former {
-            slacks.push(former.end.min(part.start).saturating_sub(least));
+            slacks.push(most(former, part).saturating_sub(least));
         }
         former = Some(part);
     }

@@ -2,6 +2,7 @@
 ghost use Rattle.std.specs.Prelude.{◌≡◌, ℕ, ◌+◌};
 ghost use Rattle.choice.specs.Sums.{Small, added, span_of_sums, past};
 
+use crate::joints::most;
 use face::Part;
 
 // The most pieces of an assembly.
@@ -36,7 +37,7 @@ impl Sums {
     {
         let (most, fits) = match former {
             Some(former) => {
-                let most = former.end.min(part.start);
+                let most = most(former, part);
                 (most, least <= most)
             }
             None => (0, true),
