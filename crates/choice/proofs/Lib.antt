@@ -7,5 +7,4 @@ pub mod Spanning
 pub mod Spreads
 pub mod Stopping
 pub mod Taking
-pub mod Tallying
 pub mod Unbettering
