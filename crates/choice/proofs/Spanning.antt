@@ -47,11 +47,12 @@ none_above least parts k above = go (length (extenders parts)) refl (pieces_many
 
 module _ (t : Totals) (r : ℕ) where
   pub above_none : MOST_PIECES < r → NoneFrom t r
-  above_none above c d k less = none_above c.least c.parts k (omega arith)
+  above_none above = record { none = λ c d k less. none_above c.least c.parts k (omega arith) }
 
   pub no_extender_none : 1 ≤ r → t.more.pieces ≡ 0 → NoneFrom t r
-  no_extender_none more none c d k less =
-      none_without c.least c.parts k (ap (λ s. s.pieces) (sym d.more_is) ∙ none) (omega arith)
+  no_extender_none more none = record {
+    none = λ c d k less. none_without c.least c.parts k (ap (λ s. s.pieces) (sym d.more_is) ∙ none) (omega arith);
+  }
 
   -- the span at a repeat count is that of its sums
   pub span_at : (s : Sums) → SumsAt t r s → (c : Construction) → Describes t c → span_of_sums t.least s ≡ span c.least c.parts r

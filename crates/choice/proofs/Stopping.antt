@@ -54,7 +54,7 @@ module _ (t : Totals) (limit target r : ℕ) (c : Construction) (d : Describes t
   ends fails = ap (option_map (assembly target c.parts)) (sym (first_none test r (4097 - r) fails) ∙ left)
 
   pub ends_none : NoneFrom t r → None ≡ option_map (assembly target c.parts) (repeats c.least limit target c.parts)
-  ends_none none = ends (λ k low. not_possible c.least limit target c.parts k (none c d k low))
+  ends_none none = ends (λ k low. not_possible c.least limit target c.parts k (none.none c d k low))
 
   module _ (s : Sums) (at : SumsAt t r s) where
     fitting_is : fitting_size target limit (span_of_sums t.least s) ≡ cond (test r) (Some (chosen_size target c.parts r)) None

@@ -20,5 +20,5 @@ pub record SumsAt (t : Totals) (r : ℕ) (s : Sums) : Type 0 where
   pub are : (c : Construction) → Describes t c → (min r 1 ≤ length (extenders c.parts)) × (s ≡ sums_of c.least (pieces r c.parts))
 
 -- from repeat count r on no assembly is legal
-abbrev pub NoneFrom : Totals → ℕ → Type 0
-NoneFrom t r = (c : Construction) → Describes t c → (k : ℕ) → r ≤ k → possible c.least c.parts k ≡ false
+pub record NoneFrom (t : Totals) (r : ℕ) : Type 0 where
+  pub none : (c : Construction) → Describes t c → (k : ℕ) → r ≤ k → possible c.least c.parts k ≡ false

@@ -24,7 +24,7 @@ impl Totals {
     }
 
     // What the pieces at a repeat count add up to; none where no assembly is legal, at it or at a higher one.
-    #[tactic(auto, using(crate::proofs::Spanning::more_at))]
+    #[tactic(auto, using(crate::proofs::Spanning::above_none, crate::proofs::Spanning::no_extender_none, crate::proofs::Spanning::more_at))]
     pub(super) fn at(self, repeats: u32) -> Option<Sums>
         ensures { MatchOption result (NoneFrom self repeats) (SumsAt self repeats) }
     {

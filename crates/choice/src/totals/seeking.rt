@@ -24,7 +24,7 @@ fn fitting(span: Option<(u64, u64)>, limit: u32, target: u64) -> Option<u32>
 
 impl Totals {
     // The assembly at the smallest repeat count at which a legal one fits, with the smallest size there that fits.
-    #[tactic(auto, using(crate::proofs::Stopping::ends_found, crate::proofs::Stopping::goes_on))]
+    #[tactic(auto, using(crate::proofs::Stopping::ends_none, crate::proofs::Stopping::ends_found, crate::proofs::Stopping::goes_on))]
     pub(crate) fn seek(self, limit: u32, target: u64) -> Option<Sign>
         ensures { (c : Construction) → Describes self c → result ≡ option_map (assembly target c.parts) (first_repeats c.least limit target c.parts) }
     {

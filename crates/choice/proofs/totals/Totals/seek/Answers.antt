@@ -1,10 +1,6 @@
 use Rattle.std.proofs.Common.{sym}
-use Rattle.choice.proofs.Stopping.{ends_none, ends_past}
+use Rattle.choice.proofs.Stopping.{ends_past}
 use Rattle.choice.proofs.totals.Totals.seek.Goals as goal
-
-pub returns-in_default : goal.returns-in_default
-returns-in_default c offer d =
-    ends_none c.args.self c.args.limit c.args.target c.loop-sums.repeats offer d (c.loop-sums.invariant.1 offer d) c.in_default.ensures
 
 pub returns-then-is_past : goal.returns-then-is_past
 returns-then-is_past c offer d =
