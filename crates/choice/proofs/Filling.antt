@@ -1,10 +1,19 @@
 -- The level and the stretches: what they add up to.
-use Rattle.std.proofs.Common.{◌≡◌, ℕ, zero, suc, ◌+◌, ◌-◌, ◌<◌, ◌≤◌, min, Bool, true, leb, List, [], ◌∷◌, Some, None, Option, unwrap_or, refl, ap, ◌∙◌, ⊎_elim, arith, MatchOption}
+use Rattle.std.proofs.Common.{◌≡◌, ℕ, zero, suc, ◌+◌, ◌-◌, ◌<◌, ◌≤◌, min, Bool, true, max, leb, List, [], ◌∷◌, unwrap_or, refl, ap, ◌∙◌, ⊎_elim, arith}
 use Rattle.std.proofs.lemmas.Bool.{cond_both, cases_lt, both_ways, leb-true, le-leb}
-use Rattle.std.specs.List.{AllZip}
+use Rattle.std.specs.List.{AllZip, fold, reduce}
 use Rattle.choice.specs.Assemblies.{total, sum}
 use Rattle.choice.specs.Laws.{TheLevelIsOne, StretchesTakeUpTheExcess}
 use Rattle.choice.specs.Spreading.{highest, filled, last, level, Level, unit, spread}
+
+-- the largest, as the library finds it
+fold_highest : (s : ℕ) (ss : List ℕ) → fold max s ss ≡ max s (highest ss)
+fold_highest s [] = omega arith
+fold_highest s (t ∷ ss) = omega (arith, fold_highest (max s t) ss)
+
+pub highest_is : (ss : List ℕ) → unwrap_or (reduce max ss) 0 ≡ highest ss
+highest_is [] = refl
+highest_is (s ∷ ss) = fold_highest s ss
 
 -- `last` is the largest number up to n that passes
 last_stands : (test : ℕ → Bool) (n : ℕ) → test 0 ≡ true
@@ -50,12 +59,6 @@ pub level_from_unfilled : (ss : List ℕ) (excess k : ℕ) → excess < filled k
 level_from_unfilled ss excess k f =
     let l : ℕ = level ss excess in
     ⊎_elim (λ (lt : l < k). lt) (λ (ge : k ≤ l). omega (arith, filled_rises k l ss ge, (level_stands ss excess).filled_by)) (cases_lt l k)
-
--- what is left over at the level is lacking
-pub left_is_lacking : (ss : List ℕ) (excess : ℕ) {l : ℕ} (o : Option ℕ) (left : ℕ) → l ≡ level ss excess
-    → MatchOption o (excess < filled l ss) (λ x. x + filled l ss ≡ excess) → left ≡ unwrap_or o 0 → left ≡ excess - filled (level ss excess) ss
-left_is_lacking ss excess None left is over value = let e : filled _ ss ≡ filled _ ss = ap (λ k. filled k ss) is in omega arith
-left_is_lacking ss excess (Some x) left is over value = let e : filled _ ss ≡ filled _ ss = ap (λ k. filled k ss) is in omega arith
 
 -- how many joints have a slack above l
 abbrev above : ℕ → List ℕ → ℕ

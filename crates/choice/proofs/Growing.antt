@@ -1,11 +1,11 @@
 -- Everything grows by the same for each further repeat.
 use Rattle.std.proofs.Common.{◌≡◌, ℕ, zero, suc, ◌+◌, ◌*◌, Bool, true, false, cond, ◌&&◌, ◌||◌, eqb, leb, List, [], ◌∷◌, ◌++◌, map, length, replicate, sym, refl, ap, ◌∙◌, arith}
 use Rattle.std.proofs.lemmas.Bool.{ne_eqb}
+use Rattle.std.proofs.Math.Bool.{and-true, and_assoc, and_self_left}
 use Rattle.face.specs.declared.parts.Part.{Part}
 use Rattle.choice.specs.Assemblies.{total, sum, pieces, extenders, most, mosts_from, mosts}
 use Rattle.choice.specs.Spans.{roomy}
-use Rattle.choice.specs.Totals.{sums_of, gains_of, grown}
-use Rattle.choice.proofs.Bools.{and_true, and_assoc, and_same, and_shuffle}
+use Rattle.choice.specs.Sums.{sums_of, gains_of, grown}
 use Rattle.choice.proofs.Repeating.{nothing, after_nothing}
 
 total_run : {A : Type 0} (f : A → ℕ) (k : ℕ) (x : A) (xs : List A) → total f (replicate k x ++ xs) ≡ k * f x + total f xs
@@ -52,6 +52,12 @@ once (p ∷ ps) =
     elim p.extender as (λ b. replicate (cond b 1 1) p ++ pieces 1 ps ≡ p ∷ ps)
     [ true ↦ ap (λ qs. p ∷ qs) (once ps) | false ↦ ap (λ qs. p ∷ qs) (once ps) ]
 
+and_shuffle : (x y u v : Bool) → (x && (y && (u && v))) ≡ ((x && u) && (y && v))
+and_shuffle false y u v = refl
+and_shuffle true true u v = refl
+and_shuffle true false true v = refl
+and_shuffle true false false v = refl
+
 -- every joint of an extender with itself leaves room
 abbrev selves : ℕ → List Part → Bool
 selves least es = roomy least (map (λ e. most e e) es)
@@ -61,7 +67,7 @@ roomy_run : (least k : ℕ) (a : Part) (ps : List Part)
     → roomy least (mosts_from a (replicate (suc k) a ++ ps)) ≡ (leb least (most a a) && roomy least (mosts_from a ps))
 roomy_run least zero a ps = refl
 roomy_run least (suc k) a ps =
-    ap (λ b. leb least (most a a) && b) (roomy_run least k a ps) ∙ and_same (leb least (most a a)) (roomy least (mosts_from a ps))
+    ap (λ b. leb least (most a a) && b) (roomy_run least k a ps) ∙ and_self_left (leb least (most a a)) (roomy least (mosts_from a ps))
 
 roomy_from : (least k : ℕ) (a : Part) (parts : List Part)
     → roomy least (mosts_from a (pieces (suc (suc k)) parts)) ≡ (roomy least (mosts_from a parts) && selves least (extenders parts))
@@ -97,7 +103,7 @@ roomy_two least k (p ∷ ps) =
 
 roomy_grows : (least k : ℕ) (parts : List Part)
     → roomy least (mosts (pieces (suc k) parts)) ≡ (roomy least (mosts parts) && (eqb k 0 || selves least (extenders parts)))
-roomy_grows least zero parts = ap (λ ps. roomy least (mosts ps)) (once parts) ∙ sym (and_true (roomy least (mosts parts)))
+roomy_grows least zero parts = ap (λ ps. roomy least (mosts ps)) (once parts) ∙ sym (and-true (roomy least (mosts parts)))
 roomy_grows least (suc k) parts =
     roomy_two least k parts ∙ ap (λ b. roomy least (mosts parts) && (b || selves least (extenders parts))) (sym (ne_eqb (suc k) 0 (λ e. omega arith)))
 

@@ -2,7 +2,6 @@
 use Rattle.std.proofs.Common.{◌≡◌, ℕ, zero, suc, ◌+◌, ◌-◌, ◌≤◌, true, List, [], ◌∷◌, map, length, Some, sym, refl, ap, ◌∙◌, arith}
 use Rattle.std.proofs.lemmas.Bool.{and_from, le-leb}
 use Rattle.std.specs.List.{slice_get}
-use Rattle.face.proofs.Indexes.{none_is_not_some}
 use Rattle.face.specs.declared.parts.Part.{Part}
 use Rattle.face.specs.Meaning.{Construction}
 use Rattle.choice.specs.declared.placing.Piece.{Piece}
@@ -22,7 +21,7 @@ record LaidBehind (a : Part) (ps : List Part) (os : List ℕ) (qs : List Piece) 
   apart : (i : ℕ) (b : Part) (p : Piece) → slice_get (a ∷ ps) i ≡ Some b → slice_get qs i ≡ Some p → p.distance + p.overlap ≡ b.full
 
 laid_behind : (least : ℕ) (a : Part) (ps : List Part) (os : List ℕ) → Within least os (mosts_from a ps) → LaidBehind a ps os (pieces_from a ps os)
-laid_behind least a [] [] w = record { count = refl; faces = refl; glyphs = refl; overlaps_are = refl; apart = λ i b p at there. absurd (none_is_not_some there) }
+laid_behind least a [] [] w = record { count = refl; faces = refl; glyphs = refl; overlaps_are = refl; apart = λ i b p at there. cc }
 laid_behind least a [] (o ∷ os) w = absurd w
 laid_behind least a (p ∷ ps) [] w = absurd w
 laid_behind least a (p ∷ ps) (o ∷ os) w =

@@ -1,15 +1,10 @@
-pub mod Bools
 pub mod Filling
 pub mod Growing
-pub mod Known
 pub mod Laying
 pub mod Repeating
 pub mod Sizing
 pub mod Spanning
 pub mod Spreads
-pub mod Stepping
 pub mod Stopping
 pub mod Taking
-pub mod Tallying
-pub mod Trying
 pub mod Unbettering

@@ -1,16 +1,18 @@
 -- The search over repeat counts: where it stops, and what it has found then.
 use Rattle.std.proofs.Common.{◌≡◌, ℕ, ◌+◌, ◌-◌, ◌<◌, ◌≤◌, Bool, true, false, cond, ltb, List, length, Some, None, sym, refl, ap, ◌∙◌, ⊎_elim, arith}
-use Rattle.std.proofs.lemmas.Bool.{cond_both, cond-false, ltb-true, lt-leb, or_cases}
+use Rattle.std.proofs.lemmas.Bool.{cond_both, cond-true, cond-false, false_from_ne_true, ltb-true, lt-leb, or_cases}
+use Rattle.std.proofs.lemmas.Option.{cond_some}
 use Rattle.std.specs.Option.{option_map}
-use Rattle.face.proofs.Indexes.{none_is_not_some}
 use Rattle.face.specs.declared.parts.Part.{Part}
+use Rattle.face.specs.Meaning.{Construction}
 use Rattle.choice.specs.declared.signs.Sign.TheVariants.{Assembly}
-use Rattle.choice.specs.declared.totals.Sums.{Sums}
+use Rattle.choice.specs.declared.sums.Sums.{Sums}
 use Rattle.choice.specs.declared.totals.Totals.{Totals}
 use Rattle.choice.specs.Assemblies.{MOST_PIECES, pieces}
 use Rattle.choice.specs.Choosing.{meets, reaches, first, repeats, chosen_size, assembly}
 use Rattle.choice.specs.Spans.{smallest, largest, possible, span}
-use Rattle.choice.specs.Totals.{Describes, SumsAt, NoneFrom, sums_of, span_of_sums, past, fitting_size}
+use Rattle.choice.specs.Sums.{sums_of, span_of_sums, past, fitting_size}
+use Rattle.choice.specs.Totals.{Describes, SumsAt, NoneFrom}
 use Rattle.choice.proofs.Repeating.{more_repeats_are_never_smaller, more_repeats_more_pieces}
 use Rattle.choice.proofs.Spanning.{span_at, too_many}
 use Rattle.choice.proofs.Taking.{first_yes, first_no, first_none}
@@ -42,46 +44,37 @@ module _ (least limit target : ℕ) (parts : List Part) where
       (λ can. refl)
       (λ cannot. refl)
 
--- which way a test went, by what it gave
-pub some_taken : {X : Type 0} (b : Bool) (x y : X) → Some y ≡ cond b (Some x) None → (b ≡ true) × (y ≡ x)
-some_taken true x y e = (refl, cc)
-some_taken false x y e = absurd (none_is_not_some (sym e))
-
-none_taken : {X : Type 0} (b : Bool) (x : X) → None ≡ cond b (Some x) None → b ≡ false
-none_taken true x e = absurd (none_is_not_some e)
-none_taken false x e = refl
-
-module _ (t : Totals) (limit target r : ℕ) (parts : List Part) (d : Describes t parts)
-    (left : first (reaches t.least limit target parts) r (4097 - r) ≡ repeats t.least limit target parts) where
+module _ (t : Totals) (limit target r : ℕ) (c : Construction) (d : Describes t c)
+    (left : first (reaches c.least limit target c.parts) r (4097 - r) ≡ repeats c.least limit target c.parts) where
   abbrev test : ℕ → Bool
-  test = reaches t.least limit target parts
+  test = reaches c.least limit target c.parts
 
   -- no count from here on reaches the target
-  ends : ((k : ℕ) → r ≤ k → test k ≡ false) → None ≡ option_map (assembly target parts) (repeats t.least limit target parts)
-  ends fails = ap (option_map (assembly target parts)) (sym (first_none test r (4097 - r) fails) ∙ left)
+  ends : ((k : ℕ) → r ≤ k → test k ≡ false) → None ≡ option_map (assembly target c.parts) (repeats c.least limit target c.parts)
+  ends fails = ap (option_map (assembly target c.parts)) (sym (first_none test r (4097 - r) fails) ∙ left)
 
-  pub ends_none : NoneFrom t r → None ≡ option_map (assembly target parts) (repeats t.least limit target parts)
-  ends_none none = ends (λ k low. not_possible t.least limit target parts k (none parts d k low))
+  pub ends_none : NoneFrom t r → None ≡ option_map (assembly target c.parts) (repeats c.least limit target c.parts)
+  ends_none none = ends (λ k low. not_possible c.least limit target c.parts k (none.none c d k low))
 
   module _ (s : Sums) (at : SumsAt t r s) where
-    fitting_is : fitting_size target limit (span_of_sums t.least s) ≡ cond (test r) (Some (chosen_size target parts r)) None
-    fitting_is = ap (fitting_size target limit) (span_at t r s at parts d) ∙ fitting_span t.least limit target parts r
+    fitting_is : fitting_size target limit (span_of_sums t.least s) ≡ cond (test r) (Some (chosen_size target c.parts r)) None
+    fitting_is = ap (fitting_size target limit) (span_at t r s at c d) ∙ fitting_span c.least limit target c.parts r
 
-    pub ends_past : past limit s ≡ true → None ≡ option_map (assembly target parts) (repeats t.least limit target parts)
-    ends_past is = ends (none_past t.least limit target parts r (ap (past limit) (sym (at.are parts d).1) ∙ is))
+    pub ends_past : past limit s ≡ true → None ≡ option_map (assembly target c.parts) (repeats c.least limit target c.parts)
+    ends_past is = ends (none_past c.least limit target c.parts r (ap (past limit) (sym (at.are c d).1) ∙ is))
 
     -- the count here reaches the target
     pub ends_found : (z : ℕ) → Some z ≡ fitting_size target limit (span_of_sums t.least s)
-        → Some (Assembly r z s.pieces) ≡ option_map (assembly target parts) (repeats t.least limit target parts)
+        → Some (Assembly r z s.pieces) ≡ option_map (assembly target c.parts) (repeats c.least limit target c.parts)
     ends_found z fits =
-        let f = some_taken (test r) (chosen_size target parts r) z (fits ∙ fitting_is) in
-        let found : Some r ≡ repeats t.least limit target parts
+        let f = cond_some (test r) (chosen_size target c.parts r) z (sym (fits ∙ fitting_is)) in
+        let found : Some r ≡ repeats c.least limit target c.parts
         = sym (first_yes test r (4097 - r) (omega (arith, at.low)) f.0) ∙ left in
-        (λ i. Some (Assembly r (f.1 i) ((at.are parts d).1 i).pieces)) ∙ ap (option_map (assembly target parts)) found
+        (λ i. Some (Assembly r (sym f.1 i) ((at.are c d).1 i).pieces)) ∙ ap (option_map (assembly target c.parts)) found
 
     -- it does not, and the search goes on
     pub goes_on : None ≡ fitting_size target limit (span_of_sums t.least s)
-        → first test (r + 1) (4097 - (r + 1)) ≡ repeats t.least limit target parts
+        → first test (r + 1) (4097 - (r + 1)) ≡ repeats c.least limit target c.parts
     goes_on misfits =
-        let fails : test r ≡ false = none_taken (test r) (chosen_size target parts r) (misfits ∙ fitting_is) in
+        let fails : test r ≡ false = false_from_ne_true (test r) (λ reach. let found = misfits ∙ fitting_is ∙ cond-true (test r) _ None reach in cc) in
         sym (first_no test r (4097 - r) (4097 - (r + 1)) (omega (arith, at.low)) fails) ∙ left

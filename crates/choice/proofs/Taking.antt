@@ -6,7 +6,6 @@ use Rattle.face.specs.declared.parts.Part.{Part}
 use Rattle.face.specs.Meaning.{Construction}
 use Rattle.choice.specs.Assemblies.{pieces, extenders, Legal, size}
 use Rattle.choice.specs.Choosing.{Fits, meets, reaches, first, chosen_size}
-use Rattle.choice.specs.Laws.{TheBestIsOne}
 use Rattle.choice.specs.Spans.{smallest, largest, possible}
 use Rattle.choice.specs.Spreading.{overlaps}
 use Rattle.choice.specs.Unbettered.{BestAssembly}
@@ -112,9 +111,3 @@ module _ (c : Construction) (target : ℕ) where
         },
         s.1,
       )
-
-pub the_best_is_one : TheBestIsOne
-the_best_is_one c target r k os us a b =
-    let x = a.best k us b.legal b.fits in
-    let y = b.best r os a.legal a.fits in
-    (omega (arith, x.0, y.0), omega (arith, x.1, y.1))

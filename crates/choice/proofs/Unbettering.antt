@@ -3,12 +3,11 @@ use Rattle.std.proofs.Common.{◌≡◌, ℕ, zero, suc, ◌+◌, ◌-◌, ◌<�
 use Rattle.std.proofs.lemmas.Bool.{cond_both, both_ways, leb-true, le-leb, and_parts, and_from}
 use Rattle.std.specs.Option.{option_map, ok_or, option_or}
 use Rattle.std.specs.List.{slice_get}
-use Rattle.face.proofs.Indexes.{none_is_not_some}
-use Rattle.face.specs.declared.faults.Fault.{Fault}
 use Rattle.face.specs.declared.variants.Variant.{Variant}
 use Rattle.face.specs.Meaning.{Meaning, unknown, faulty, construction, Construction}
-use Rattle.choice.specs.declared.signs.Missing.{Missing}
 use Rattle.choice.specs.declared.signs.Missing.TheVariants.{Unknown, NothingFits}
+use Rattle.choice.specs.declared.signs.NoSign.{NoSign}
+use Rattle.choice.specs.declared.signs.NoSign.TheVariants.{Missing, Faulty}
 use Rattle.choice.specs.declared.signs.Sign.{Sign}
 use Rattle.choice.specs.declared.signs.Sign.TheVariants.{Variant as ReadyMade, Assembly}
 use Rattle.choice.specs.Choosing.{Fits, fits, first_variant, reaches, repeats, assembly, chosen, choice}
@@ -60,7 +59,7 @@ module _ (target limit : ℕ) where
       earlier n before (suc j) w less at f = before j w (omega arith) at f
 
   pub first_variant_stands : (i : ℕ) (vs : List Variant) → MatchOption (first_variant target limit i vs) (NoneFits vs) (IsFound i vs)
-  first_variant_stands i [] = λ j w at f. none_is_not_some at
+  first_variant_stands i [] = λ j w at f. cc
   first_variant_stands i (v ∷ vs) =
       cond_both (fits target limit v.advance) (Some (ReadyMade i v)) (first_variant target limit (i + 1) vs)
       (λ o. MatchOption o (NoneFits (v ∷ vs)) (IsFound i (v ∷ vs)))
@@ -98,38 +97,39 @@ module _ (c : Construction) (target : ℕ) where
       let e : i - 0 ≡ i = omega arith in
       record { at = rw e at h.at; fits = h.fitting; first = λ j w less at f. h.before j w (omega arith) at f }
 
-  pub chosen_is_unbettered : UnbetteredIn c target (ok_or (chosen c target) NothingFits)
+  pub chosen_is_unbettered : UnbetteredIn c target (ok_or (chosen c target) (Missing NothingFits))
   chosen_is_unbettered =
       either (first_variant target c.limit 0 c.variants) (first_variant_stands target c.limit 0 c.variants)
       (repeats c.least c.limit target c.parts) repeats_stand
     where
       either : (o : Option Sign) → MatchOption o (NoVariantFits c target) (IsFound target c.limit 0 c.variants)
           → (p : Option ℕ) → MatchOption p (NoAssemblyFits c target) (λ r. NoVariantFits c target → UnbetteredSign c target (assembly target c.parts r))
-          → UnbetteredIn c target (ok_or (option_or o (option_map (assembly target c.parts) p)) NothingFits)
+          → UnbetteredIn c target (ok_or (option_or o (option_map (assembly target c.parts) p)) (Missing NothingFits))
       either (Some s) h p k = first_found s h
       either None h (Some r) k = k h
       either None h None k = (h, k)
 
 -- the choice for a key cannot be bettered
-pub the_choice_is_unbettered : (m : Meaning) (target : ℕ) (answer : Result (Result Sign Missing) Fault) → answer ≡ choice m target → Unbettered m target answer
+pub the_choice_is_unbettered : (m : Meaning) (target : ℕ) (answer : Result Sign NoSign) → answer ≡ choice m target → Unbettered m target answer
 the_choice_is_unbettered unknown target answer e = e
 the_choice_is_unbettered (faulty f) target answer e = e
 the_choice_is_unbettered (construction c) target answer e = rw e (chosen_is_unbettered c target)
 
 -- an answer for a construction that cannot be bettered is that nothing fits, exactly where nothing does
 module _ (c : Construction) (target : ℕ) where
-  none_so : (a : Result Sign Missing) → UnbetteredIn c target a → a ≡ Err NothingFits → NoVariantFits c target × NoAssemblyFits c target
+  none_so : (a : Result Sign NoSign) → UnbetteredIn c target a → a ≡ Err (Missing NothingFits) → NoVariantFits c target × NoAssemblyFits c target
   none_so a u e = rw e at u
 
-  none_only : (a : Result Sign Missing) → UnbetteredIn c target a → NoVariantFits c target → NoAssemblyFits c target → a ≡ Err NothingFits
+  none_only : (a : Result Sign NoSign) → UnbetteredIn c target a → NoVariantFits c target → NoAssemblyFits c target → a ≡ Err (Missing NothingFits)
   none_only (Ok (ReadyMade i v)) u no_variant no_assembly = absurd (no_variant i v u.at u.fits)
   none_only (Ok (Assembly r z n)) u no_variant no_assembly = absurd (no_assembly r _ u.best.legal u.best.fits)
-  none_only (Err NothingFits) u no_variant no_assembly = refl
-  none_only (Err Unknown) u no_variant no_assembly = absurd u
+  none_only (Err (Missing NothingFits)) u no_variant no_assembly = refl
+  none_only (Err (Missing Unknown)) u no_variant no_assembly = absurd u
+  none_only (Err (Faulty f)) u no_variant no_assembly = absurd u
 
   pub nothing_fits_exactly : NothingFitsExactly c target
   nothing_fits_exactly =
       record {
-        so = λ e. let is : ok_or (chosen c target) NothingFits ≡ Err NothingFits = cc in none_so _ (chosen_is_unbettered c target) is;
-        only = λ no_variant no_assembly. ap Ok (none_only _ (chosen_is_unbettered c target) no_variant no_assembly);
+        so = λ e. none_so _ (chosen_is_unbettered c target) e;
+        only = λ no_variant no_assembly. none_only _ (chosen_is_unbettered c target) no_variant no_assembly;
       }

@@ -7,7 +7,7 @@ use Rattle.face.specs.declared.parts.Part.{Part}
 abbrev pub MOST_PIECES : ℕ
 MOST_PIECES = 4096
 
--- the sum of a measure over a list
+-- the sum of a measure over a list; it goes by the first entry, as inductions do, where the library's sum_by folds
 abbrev pub total : {A : Type 0} → (A → ℕ) → List A → ℕ
 total f [] = 0
 total f (x ∷ xs) = f x + total f xs

@@ -1,12 +1,12 @@
 -- The choice of a sign for a target.
-use Rattle.std.specs.Prelude.{ℕ, zero, suc, ◌+◌, ◌≤◌, min, max, Bool, false, cond, ◌&&◌, List, [], ◌∷◌, length, Some, None, Ok, Err, Option, Result, nat_le}
+use Rattle.std.specs.Prelude.{ℕ, zero, suc, ◌+◌, ◌≤◌, min, max, Bool, false, cond, ◌&&◌, List, [], ◌∷◌, length, Some, None, Err, Option, Result, nat_le}
 use Rattle.std.specs.Option.{option_map, ok_or, option_or}
-use Rattle.face.specs.declared.faults.Fault.{Fault}
 use Rattle.face.specs.declared.parts.Part.{Part}
 use Rattle.face.specs.declared.variants.Variant.{Variant}
 use Rattle.face.specs.Meaning.{Meaning, unknown, faulty, construction, Construction}
-use Rattle.choice.specs.declared.signs.Missing.{Missing}
 use Rattle.choice.specs.declared.signs.Missing.TheVariants.{Unknown, NothingFits}
+use Rattle.choice.specs.declared.signs.NoSign.{NoSign}
+use Rattle.choice.specs.declared.signs.NoSign.TheVariants.{Missing, Faulty}
 use Rattle.choice.specs.declared.signs.Sign.{Sign}
 use Rattle.choice.specs.declared.signs.Sign.TheVariants.{Variant as ReadyMade, Assembly}
 use Rattle.choice.specs.Assemblies.{MOST_PIECES, pieces}
@@ -58,8 +58,8 @@ chosen c target =
     option_or (first_variant target c.limit 0 c.variants)
     (option_map (assembly target c.parts) (repeats c.least c.limit target c.parts))
 
--- the choice for a key: its fault, or why there is no sign, or the sign
-abbrev pub choice : Meaning → ℕ → Result (Result Sign Missing) Fault
-choice unknown target = Ok (Err Unknown)
-choice (faulty f) target = Err f
-choice (construction c) target = Ok (ok_or (chosen c target) NothingFits)
+-- the choice for a key: the sign, or why there is none
+abbrev pub choice : Meaning → ℕ → Result Sign NoSign
+choice unknown target = Err (Missing Unknown)
+choice (faulty f) target = Err (Faulty f)
+choice (construction c) target = ok_or (chosen c target) (Missing NothingFits)

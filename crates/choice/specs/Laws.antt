@@ -1,11 +1,12 @@
 -- The laws of assemblies, of spreading and of the choice.
-use Rattle.std.specs.Prelude.{◌≡◌, ℕ, ◌+◌, ◌≤◌, List, [], ◌∷◌, map, length, Some, Ok, Err}
+use Rattle.std.specs.Prelude.{◌≡◌, ℕ, ◌+◌, ◌≤◌, List, [], ◌∷◌, map, length, Some, Err}
 use Rattle.std.specs.List.{AllZip, slice_get}
 use Rattle.face.specs.declared.parts.Part.{Part}
 use Rattle.face.specs.declared.variants.Variant.{Variant}
 use Rattle.face.specs.Meaning.{Meaning, construction, Construction}
 use Rattle.choice.specs.declared.placing.Piece.{Piece}
 use Rattle.choice.specs.declared.signs.Missing.TheVariants.{NothingFits}
+use Rattle.choice.specs.declared.signs.NoSign.TheVariants.{Missing}
 use Rattle.choice.specs.declared.signs.Sign.TheVariants.{Variant as ReadyMade, Assembly}
 use Rattle.choice.specs.Assemblies.{sum, pieces, size}
 use Rattle.choice.specs.Choosing.{choice}
@@ -36,8 +37,8 @@ StretchesTakeUpTheExcess =
 
 -- that nothing fits is answered exactly where no variant and no legal assembly does
 pub record NothingFitsExactly (c : Construction) (target : ℕ) : Type 0 where
-  pub so : choice (construction c) target ≡ Ok (Err NothingFits) → NoVariantFits c target × NoAssemblyFits c target
-  pub only : NoVariantFits c target → NoAssemblyFits c target → choice (construction c) target ≡ Ok (Err NothingFits)
+  pub so : choice (construction c) target ≡ Err (Missing NothingFits) → NoVariantFits c target × NoAssemblyFits c target
+  pub only : NoVariantFits c target → NoAssemblyFits c target → choice (construction c) target ≡ Err (Missing NothingFits)
 
 -- two best assemblies have the same repeats and the same size
 abbrev pub TheBestIsOne : Type 0

@@ -5,6 +5,9 @@ pub mod Pieces
 pub mod SpanTells
 pub mod Spans
 pub mod Spreading
+pub mod Steps
+pub mod Sums
+pub mod Tallying
 pub mod Totals
 pub mod Unbettered
 pub mod Walking

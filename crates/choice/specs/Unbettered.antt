@@ -1,11 +1,11 @@
 -- What makes a choice one that cannot be bettered.
 use Rattle.std.specs.Prelude.{◌≡◌, ℕ, ◌<◌, ◌≤◌, List, length, Some, Ok, Err, Result}
 use Rattle.std.specs.List.{slice_get}
-use Rattle.face.specs.declared.faults.Fault.{Fault}
 use Rattle.face.specs.declared.variants.Variant.{Variant}
 use Rattle.face.specs.Meaning.{Meaning, unknown, faulty, construction, Construction}
-use Rattle.choice.specs.declared.signs.Missing.{Missing}
 use Rattle.choice.specs.declared.signs.Missing.TheVariants.{Unknown, NothingFits}
+use Rattle.choice.specs.declared.signs.NoSign.{NoSign}
+use Rattle.choice.specs.declared.signs.NoSign.TheVariants.{Missing, Faulty}
 use Rattle.choice.specs.declared.signs.Sign.{Sign}
 use Rattle.choice.specs.declared.signs.Sign.TheVariants.{Variant as ReadyMade, Assembly}
 use Rattle.choice.specs.Assemblies.{Legal, pieces, size}
@@ -48,14 +48,14 @@ UnbetteredSign c target (ReadyMade i v) = FirstVariant c target i v
 UnbetteredSign c target (Assembly r z n) = AssemblyTaken c target r z n
 
 -- a sign is answered only where none is better, and that nothing fits only where nothing does
-abbrev pub UnbetteredIn : Construction → ℕ → Result Sign Missing → Type 0
+abbrev pub UnbetteredIn : Construction → ℕ → Result Sign NoSign → Type 0
 UnbetteredIn c target (Ok sign) = UnbetteredSign c target sign
-UnbetteredIn c target (Err Unknown) = ⊥
-UnbetteredIn c target (Err NothingFits) = NoVariantFits c target × NoAssemblyFits c target
+UnbetteredIn c target (Err (Missing Unknown)) = ⊥
+UnbetteredIn c target (Err (Missing NothingFits)) = NoVariantFits c target × NoAssemblyFits c target
+UnbetteredIn c target (Err (Faulty f)) = ⊥
 
 -- what is answered for a key cannot be bettered: unknown is unknown, a fault is that fault
-abbrev pub Unbettered : Meaning → ℕ → Result (Result Sign Missing) Fault → Type 0
-Unbettered unknown target answer = answer ≡ Ok (Err Unknown)
-Unbettered (faulty f) target answer = answer ≡ Err f
-Unbettered (construction c) target (Ok answer) = UnbetteredIn c target answer
-Unbettered (construction c) target (Err f) = ⊥
+abbrev pub Unbettered : Meaning → ℕ → Result Sign NoSign → Type 0
+Unbettered unknown target answer = answer ≡ Err (Missing Unknown)
+Unbettered (faulty f) target answer = answer ≡ Err (Faulty f)
+Unbettered (construction c) target answer = UnbetteredIn c target answer

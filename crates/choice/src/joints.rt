@@ -1,35 +1,51 @@
 // The joints of an assembly, stretched one after the other.
 ghost use Rattle.std.specs.Prelude.{◌≡◌, List, ◌∷◌};
 ghost use Rattle.face.specs.declared.parts.Part.{Part as ThePart};
-ghost use Rattle.choice.specs.Walking.{Overlaps, placed_by};
+ghost use Rattle.choice.specs.Assemblies.{most as the_most};
+ghost use Rattle.choice.specs.Walking.{Overlaps, placed_by, unjoined};
 
 use crate::placing::Piece;
 use face::Part;
+
+// By how much a part can overlap the one before it at the most.
+pub(crate) fn most(former: Part, part: Part) -> u32
+    ensures { result ≡ the_most former part }
+{
+    former.end.min(part.start)
+}
 
 // How the joints are stretched: each by the smaller of its slack and the level, and the first whose slack is above the
 // level by one more, while units are lacking.
 #[derive(Clone, Copy)]
 pub(crate) struct Joints {
-    pub(crate) least: u32,
-    pub(crate) level: u32,
-    pub(crate) lacking: u64,
+    least: u32,
+    level: u32,
+    lacking: u64,
     // The piece that the next one joins.
-    pub(crate) former: Option<Part>,
+    former: Option<Part>,
 }
 
 impl Joints {
+    // Before the first piece.
+    pub(crate) fn new(least: u32, level: u32, lacking: u64) -> Joints
+        ensures { result ≡ unjoined least level lacking }
+    {
+        Joints {
+            least,
+            level,
+            lacking,
+            former: None,
+        }
+    }
+
     // The overlap of the next joint, which can overlap by so much at the most.
     fn overlap(&mut self, most: u32) -> u32
         ensures { Overlaps self.old most result self.new }
     {
         let slack = most.saturating_sub(self.least);
-        let more = if slack > self.level && self.lacking > 0 {
-            1
-        } else {
-            0
-        };
+        let more = u32::from(slack > self.level && self.lacking > 0);
         self.lacking -= u64::from(more);
-        most - slack.min(self.level) - more
+        most.saturating_sub(slack.min(self.level) + more)
     }
 
     // The next piece, where it is placed.
@@ -39,7 +55,7 @@ impl Joints {
         let (overlap, distance) = match self.former {
             None => (0, 0),
             Some(former) => {
-                let overlap = self.overlap(former.end.min(part.start));
+                let overlap = self.overlap(most(former, part));
                 (overlap, former.full - overlap)
             }
         };

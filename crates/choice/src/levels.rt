@@ -6,11 +6,7 @@ ghost use Rattle.choice.specs.Spreading.{Level, level as the_level, filled, high
 fn highest(slacks: &[u32]) -> u32
     ensures { result ≡ the_highest slacks.now }
 {
-    let mut high = 0;
-    for slack in slacks {
-        high = (*slack).max(high);
-    }
-    high
+    slacks.iter().copied().max().unwrap_or(0)
 }
 
 // What a joint takes where none takes more than `most`.

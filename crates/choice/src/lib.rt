@@ -3,20 +3,20 @@
 #![tactic(auto)]
 
 pub mod choosing;
-mod cursors;
 mod joints;
 pub mod laws;
 pub mod levels;
 pub mod placing;
-mod reading;
 pub mod signs;
 mod slacks;
 pub mod spans;
+mod stacks;
+mod sums;
 mod totals;
 mod walks;
 
 pub use choosing::choose;
 pub use levels::level;
 pub use placing::{Piece, Pieces};
-pub use signs::{Missing, Sign};
+pub use signs::{Missing, NoSign, Sign};
 pub use spans::span;

@@ -1,12 +1,12 @@
 // The pieces of a sign that is taken.
-ghost use Rattle.std.specs.Prelude.{◌≡◌, length};
-ghost use Rattle.choice.specs.Pieces.{pieces_of};
-ghost use Rattle.choice.specs.Walking.{Next, to_come};
-ghost use Rattle.std.specs.Iterator.{at_most};
+ghost use Rattle.std.specs.Prelude.{◌≡◌};
+ghost use Rattle.std.specs.Iterator.{YieldsFirst, item_count};
+ghost use Rattle.choice.specs.Pieces.{pieces_of, ready_piece as the_ready_piece};
 
-use crate::cursors::{Cursor, stacked};
 use crate::signs::Sign;
-use face::{Face, Key};
+use crate::stacks::{Stack, stacked};
+use face::{Face, Key, Variant};
+use std::marker::Model;
 
 // One piece of a sign.
 #[derive(Clone, Copy, PartialEq, Eq, Debug)]
@@ -20,42 +20,70 @@ pub struct Piece {
     pub distance: u32,
 }
 
-// The pieces of a sign, from the bottom or the left.
+// The one piece of a variant.
+fn ready_piece(variant: Variant) -> Piece
+    ensures { result ≡ the_ready_piece variant }
+{
+    Piece {
+        face: variant.face,
+        glyph: variant.glyph,
+        overlap: 0,
+        distance: 0,
+    }
+}
+
+// Where the pieces of a sign come from.
+#[derive(Drop)]
+enum Steps<'a, F: Face> {
+    // A ready-made piece, if it is still to come.
+    Ready(Option<Piece>),
+    Stacked(Stack<'a, F>),
+}
+
+// The pieces of a sign that are still to come, from the bottom or the left. A contract sees them as that list.
 #[derive(Drop)]
 pub struct Pieces<'a, F: Face> {
-    face: &'a F,
-    found: Option<F::Found>,
-    cursor: Cursor,
+    steps: Steps<'a, F>,
+}
+
+impl<'a, F: Face> Model for Pieces<'a, F> {
+    ghost use Rattle.std.specs.Prelude.{List};
+    ghost use Rattle.choice.specs.declared.placing.Piece.{Piece as ThePiece};
+
+    ghost Value = { List ThePiece };
+
+    ghost use Rattle.choice.specs.Steps.{to_come};
+
+    ghost view = { λ p. to_come p.steps };
 }
 
 impl<'a, F: Face> Pieces<'a, F> {
     // Of a sign that the face takes for the key. An assembly that it does not have has no pieces.
     pub fn new(face: &'a F, key: Key, sign: Sign) -> Pieces<'a, F>
-        ensures same { result.face.now ≡ face.now }
-        ensures pieces { to_come (F.Face.parts face.now) result.found result.cursor ≡ pieces_of (F.Face.meaning face.now key) sign }
+        ensures { result ≡ pieces_of (F.Face.meaning face.now key) sign }
     {
-        let found = face.find(key);
-        let cursor = match sign {
-            Sign::Variant { variant, .. } => Cursor::ready(variant),
-            Sign::Assembly { repeats, size, .. } => stacked(face, key, found, repeats, size),
+        let steps = match sign {
+            Sign::Variant { variant, .. } => Steps::Ready(Some(ready_piece(variant))),
+            Sign::Assembly { repeats, size, .. } => match stacked(face, key, repeats, size) {
+                Some(stack) => Steps::Stacked(stack),
+                None => Steps::Ready(None),
+            },
         };
-        Pieces {
-            face,
-            found,
-            cursor,
-        }
+        Pieces { steps }
     }
 }
 
-// What a step gives is the first of the pieces that are to come, and they end.
 impl<'a, F: Face> Iterator for Pieces<'a, F> {
     type Item = Piece;
 
-    ghost next_gives = { λ s r t. Next (to_come (F.Face.parts s.face.now) s.found s.cursor) r (to_come (F.Face.parts t.face.now) t.found t.cursor) };
+    ghost next_gives = { YieldsFirst (λ s. s) };
 
-    ghost remaining = { λ s. at_most (length (to_come (F.Face.parts s.face.now) s.found s.cursor)) };
+    ghost remaining = { item_count (λ s. s) };
 
     fn next(&mut self) -> Option<Piece> {
-        self.cursor.next(self.face, self.found)
+        match &mut self.steps {
+            Steps::Ready(piece) => piece.take(),
+            Steps::Stacked(stack) => stack.next(),
+        }
     }
 }

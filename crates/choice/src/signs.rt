@@ -1,4 +1,7 @@
-use face::Variant;
+ghost use Rattle.std.specs.Prelude.{◌≡◌};
+ghost use Rattle.choice.specs.declared.signs.NoSign.TheVariants.{Missing as IsMissing, Faulty as IsFaulty};
+
+use face::{Fault, Variant};
 
 // A sign that is taken for a target.
 #[derive(Clone, Copy, PartialEq, Eq, Debug)]
@@ -16,11 +19,35 @@ pub enum Sign {
     },
 }
 
-// Why there is no sign for a target: the number of the question that got a no.
+// The number of the question about a key and a target that got a no.
 #[derive(Clone, Copy, PartialEq, Eq, Debug)]
 pub enum Missing {
     // Is the sign's key known?
     Unknown = 6,
     // Does a variant or a legal assembly fit?
     NothingFits = 8,
+}
+
+// Why there is no sign for a target.
+#[derive(Clone, Copy, PartialEq, Eq, Debug)]
+pub enum NoSign {
+    Missing(Missing),
+    // The face cannot say what it offers for the key.
+    Faulty(Fault),
+}
+
+impl From<Missing> for NoSign {
+    ghost from_gives = { λ missing e. e ≡ IsMissing missing };
+
+    fn from(missing: Missing) -> NoSign {
+        NoSign::Missing(missing)
+    }
+}
+
+impl From<Fault> for NoSign {
+    ghost from_gives = { λ fault e. e ≡ IsFaulty fault };
+
+    fn from(fault: Fault) -> NoSign {
+        NoSign::Faulty(fault)
+    }
 }

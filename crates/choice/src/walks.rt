@@ -1,60 +1,69 @@
 // A walk along the pieces of an assembly.
 ghost use Rattle.std.specs.Prelude.{◌≡◌};
-ghost use Rattle.choice.specs.Walking.{Next, ahead, copies_of, not_begun};
+ghost use Rattle.std.specs.Iterator.{YieldsFirst, item_count};
+ghost use Rattle.choice.specs.Assemblies.{copies as copies_of, pieces};
 
-use crate::reading::part_at;
-use face::{Face, Part};
+use face::{Entries, Face, Offer, Part};
+use std::marker::Model;
 
-// Where a walk along the pieces of an assembly stands.
-#[derive(Clone, Copy)]
-pub(crate) struct Walk {
+// The pieces that are still to come. A contract sees them as that list.
+#[derive(Drop)]
+pub(crate) struct Walk<'a, F: Face> {
+    // The parts that are still to come.
+    parts: Entries<'a, F, Part>,
     // How often each extender stands in a row.
-    pub(crate) repeats: u32,
-    // How many parts there are, and the index of the next.
-    pub(crate) count: u16,
-    pub(crate) index: u16,
+    repeats: u32,
     // The latest part, and how many copies of it are still to come.
-    pub(crate) part: Option<Part>,
-    pub(crate) copies: u32,
+    row: Option<(Part, u32)>,
+}
+
+impl<'a, F: Face> Model for Walk<'a, F> {
+    ghost use Rattle.std.specs.Prelude.{List, ◌++◌};
+    ghost use Rattle.face.specs.declared.parts.Part.{Part as ThePart};
+    ghost use Rattle.choice.specs.Assemblies.{pieces};
+    ghost use Rattle.choice.specs.Walking.{standing};
+
+    ghost Value = { List ThePart };
+
+    ghost view = { λ w. standing w.row ++ pieces w.repeats w.parts };
 }
 
 // How often a part stands in a row.
-fn copies(part: Option<Part>, repeats: u32) -> u32
+fn copies(part: Part, repeats: u32) -> u32
     ensures { result ≡ copies_of repeats part }
 {
-    match part {
-        None => 0,
-        Some(part) => if part.extender { repeats } else { 1 },
+    if part.extender { repeats } else { 1 }
+}
+
+impl<'a, F: Face> Walk<'a, F> {
+    // Along all pieces at a repeat count.
+    pub(crate) fn along(offer: &Offer<'a, F>, repeats: u32) -> Walk<'a, F>
+        ensures { result ≡ pieces repeats offer.now.parts }
+    {
+        Walk {
+            parts: offer.entries(),
+            repeats,
+            row: None,
+        }
     }
 }
 
-impl Walk {
-    // A walk that has not begun.
-    pub(crate) fn along(count: u16, repeats: u32) -> Walk
-        ensures { result ≡ not_begun count repeats }
-    {
-        Walk {
-            repeats,
-            count,
-            index: 0,
-            part: None,
-            copies: 0,
-        }
-    }
+impl<'a, F: Face> Iterator for Walk<'a, F> {
+    type Item = Part;
 
-    // The next piece. Parts that stand no time are passed over.
-    pub(crate) fn next<F: Face>(&mut self, face: &F, found: Option<F::Found>) -> Option<Part>
-        ensures { Next (ahead (F.Face.parts face.now) found self.old) result (ahead (F.Face.parts face.now) found self.new) }
-    {
-        while self.copies == 0 || self.part.is_none() {
-            if self.index >= self.count {
-                return None;
+    ghost next_gives = { YieldsFirst (λ s. s) };
+
+    ghost remaining = { item_count (λ s. s) };
+
+    // Parts that stand no time are passed over.
+    fn next(&mut self) -> Option<Part> {
+        loop {
+            if let Some((part, copies @ 1..)) = self.row {
+                self.row = Some((part, copies - 1));
+                return Some(part);
             }
-            self.part = part_at(face, found, self.index);
-            self.copies = copies(self.part, self.repeats);
-            self.index += 1;
+            let part = self.parts.next()?;
+            self.row = Some((part, copies(part, self.repeats)));
         }
-        self.copies -= 1;
-        self.part
     }
 }

@@ -1,13 +1,13 @@
 // The search for the smallest repeat count at which an assembly fits.
-ghost use Rattle.std.specs.Prelude.{◌≡◌, List};
+ghost use Rattle.std.specs.Prelude.{◌≡◌};
 ghost use Rattle.std.specs.Option.{option_map};
-ghost use Rattle.face.specs.declared.parts.Part.{Part as ThePart};
+ghost use Rattle.face.specs.Meaning.{Construction};
 ghost use Rattle.choice.specs.Choosing.{assembly, repeats as first_repeats};
-ghost use Rattle.choice.specs.Totals.{Describes, SmallTotals, fitting_size, past};
+ghost use Rattle.choice.specs.Sums.{fitting_size};
+ghost use Rattle.choice.specs.Totals.{Describes};
 
+use super::Totals;
 use crate::signs::Sign;
-use crate::totals::repeated::MOST_PIECES;
-use crate::totals::{Sums, Totals};
 
 // The smallest size of a span that fits.
 fn fitting(span: Option<(u64, u64)>, limit: u32, target: u64) -> Option<u32>
@@ -22,20 +22,11 @@ fn fitting(span: Option<(u64, u64)>, limit: u32, target: u64) -> Option<u32>
     }
 }
 
-impl Sums {
-    // Are there too many pieces, or is every size above the limit? Further repeats only add to both.
-    fn is_past(self, limit: u32) -> bool
-        ensures { result ≡ past limit self }
-    {
-        self.pieces > MOST_PIECES || self.full.saturating_sub(self.mosts) > u64::from(limit)
-    }
-}
-
 impl Totals {
     // The assembly at the smallest repeat count at which a legal one fits, with the smallest size there that fits.
+    #[tactic(auto, using(crate::proofs::Stopping::ends_none, crate::proofs::Stopping::ends_found, crate::proofs::Stopping::goes_on))]
     pub(crate) fn seek(self, limit: u32, target: u64) -> Option<Sign>
-        requires { SmallTotals 65535 self }
-        ensures { (parts : List ThePart) → Describes self parts → result ≡ option_map (assembly target parts) (first_repeats self.least limit target parts) }
+        ensures { (c : Construction) → Describes self c → result ≡ option_map (assembly target c.parts) (first_repeats c.least limit target c.parts) }
     {
         let mut repeats = 0;
         loop {

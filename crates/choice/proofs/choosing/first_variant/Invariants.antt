@@ -1,12 +1,16 @@
-use Rattle.std.proofs.Common.{◌≡◌, List, drop}
-use Rattle.face.specs.Finding.{told}
-use Rattle.face.specs.declared.variants.Variant.{Variant}
+use Rattle.std.proofs.Common.{◌≡◌, ◌+◌, length}
+use Rattle.std.specs.Iterator.Adapters.{zip_first, zip_second}
 use Rattle.choice.specs.Choosing.{first_variant}
-use Rattle.choice.specs.Totals.{Entries}
 use Rattle.choice.proofs.choosing.first_variant.Given as goal
 
 -- none of the variants so far fits
-abbrev pub invariant-loop-index : goal.invariant-loop-index
-invariant-loop-index g l =
-    (vs : List Variant) → Entries l.look.variants (λ i. told (g.F.Face.variants l.face) i l.found) vs
-    → first_variant l.target l.look.limit l.index (drop l.index vs) ≡ first_variant l.target l.look.limit 0 vs
+abbrev pub invariant-loop-variant : goal.invariant-loop-variant
+invariant-loop-variant g l =
+    let left = zip_first l.variant-iterator in
+    let indexes = zip_second l.variant-iterator in
+    record {
+      can_next : (goal.iterator-loop-variant g).can_next l.variant-iterator;
+      finite : (goal.iterator-loop-variant g).is_finite l.variant-iterator;
+      as_many : indexes.start + length left ≡ indexes.end;
+      so_far : first_variant l.target l.offer.limit indexes.start left ≡ first_variant l.target l.offer.limit 0 l.offer.variants;
+    }

@@ -1,17 +1,13 @@
-use Rattle.std.proofs.Common.{◌≡◌, ℕ, ◌+◌, max, List, get_or, drop, arith}
-use Rattle.std.proofs.lemmas.List.{at_drop_more, at_drop_all}
-use Rattle.choice.specs.Spreading.{highest}
+use Rattle.std.proofs.Common.{◌≡◌, sym, ap, ◌∙◌, max, unwrap_or}
+use Rattle.std.specs.List.{reduce}
+use Rattle.std.proofs.lemmas.Iterator.{YieldsList-from_slice}
+use Rattle.std.proofs.lemmas.Iterator.Consumers.{YieldsList-at, YieldsList-from_copied, max_from_yields_List}
+use Rattle.std.proofs.lemmas.Iterator.Adapters.{option_map_id}
+use Rattle.choice.proofs.Filling.{highest_is}
 use Rattle.choice.proofs.levels.highest.Goals as goal
-
-pub loop-slack-preserved : goal.loop-slack-preserved
-loop-slack-preserved c =
-    let xs : List ℕ = c.args.slacks.now in
-    let i : ℕ = c.loop-slack.slack-index in
-    let step : highest (drop i xs) ≡ max (get_or xs i 0) (highest (drop (i + 1) xs)) = at_drop_more highest xs i 0 c.loop-slack-test.true in
-    omega arith
 
 pub returns : goal.returns
 returns c =
-    let done : highest (drop c.loop-slack.slack-index c.args.slacks.now) ≡ 0
-    = at_drop_all highest c.args.slacks.now c.loop-slack.slack-index c.loop-slack-test.false in
-    omega arith
+    let largest : c.max.result ≡ reduce max c.args.slacks.now =
+    sym (option_map_id c.max.result) ∙ max_from_yields_List _ _ c.max.ensures.ran (YieldsList-from_copied (YieldsList-at c.copied.ensures.source (YieldsList-from_slice c.args.slacks.now cc))) in
+    c.unwrap_or.ensures ∙ ap (λ o. unwrap_or o 0) largest ∙ highest_is c.args.slacks.now
