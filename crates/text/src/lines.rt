@@ -1,9 +1,11 @@
-ghost use Rattle.std.specs.Prelude.{◌≡◌, ◌<◌, [], ◌∷◌, length, IfSome, MatchOption};
+ghost use Rattle.std.specs.Prelude.{◌≡◌, ◌<◌, List, [], ◌∷◌, ℕ, length, IfSome, MatchOption};
+ghost use Rattle.std.specs.Iterator.{YieldsFirstRef, item_count};
 ghost use Rattle.std.specs.Option.{unwrap_or};
 ghost use Rattle.text.specs.Cuts.{before, after};
 ghost use Rattle.text.specs.Lines.{lines};
 
 use crate::cuts::cut;
+use std::marker::Model;
 
 const LINE_FEED: u8 = b'\n';
 
@@ -27,3 +29,38 @@ pub fn next_line(text: &[u8]) -> Option<(&[u8], &[u8])>
     }
     Some(first_line(text))
 }
+
+// The lines of a text, in turn: seen as the lines that are still to come.
+#[derive(Clone, Drop)]
+pub struct Lines<'a> {
+    rest: &'a [u8],
+}
+
+impl<'a> Model for Lines<'a> {
+    ghost Value = { List (List ℕ) };
+
+    ghost view = { λ s. lines s.rest.now };
+}
+
+impl<'a> Lines<'a> {
+    pub fn new(text: &'a [u8]) -> Lines<'a>
+        ensures { result ≡ lines text.now }
+    {
+        Lines { rest: text }
+    }
+}
+
+impl<'a> Iterator for Lines<'a> {
+    type Item = &'a [u8];
+
+    ghost next_gives = { YieldsFirstRef (λ s. s) };
+
+    ghost remaining = { item_count (λ s. s) };
+
+    fn next(&mut self) -> Option<&'a [u8]> {
+        let (line, rest) = next_line(self.rest)?;
+        self.rest = rest;
+        Some(line)
+    }
+}
+
