@@ -19,6 +19,7 @@ fn first_line(text: &[u8]) -> (&[u8], &[u8])
 }
 
 // The first line, without its line feed, and the text after it; none in an empty text.
+#[tactic(auto, using(crate::proofs::Parting::first_line, crate::proofs::Parting::rest_shorter))]
 pub fn next_line(text: &[u8]) -> Option<(&[u8], &[u8])>
     ensures lines { MatchOption result (text.now ≡ []) (λ p. lines text.now ≡ p.0.now ∷ lines p.1.now) }
     ensures rest { IfSome result (λ p. p.1.now ≡ unwrap_or (after 10 text.now) []) }
