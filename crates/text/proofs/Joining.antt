@@ -1,12 +1,10 @@
 -- What was parted is joined again, and what was joined is parted.
-use Rattle.std.proofs.Common.{◌≡◌, ℕ, Bool, true, false, cond, eqb, List, [], ◌∷◌, ◌++◌, Some, None, Option, sym, refl, ap, ◌∙◌, arith}
-use Rattle.std.specs.List.{AllByRecursion}
-use Rattle.std.proofs.lemmas.Bool.{eqb-true, eqb-false, eq-eqb, ne_eqb}
+use Rattle.std.proofs.Common.{◌≡◌, ℕ, List, [], ◌∷◌, ◌++◌, None, refl, ap, ◌∙◌, arith}
 use Rattle.std.proofs.lemmas.Grind.{common_steps}
-use Rattle.text.specs.Cuts.{before, after}
+use Rattle.text.specs.Cuts.{after}
 use Rattle.text.specs.Lines.{onto, lines}
 use Rattle.text.proofs.Parting.{first_line}
-use Rattle.text.specs.Laws.{Without, rejoined, joined, ended, ACutJoinedAgainIsTheBytes, WhatIsJoinedIsCutThere, LinesJoinedAgainAreTheText, LinesAreReadAsTheyAreWritten}
+use Rattle.text.specs.Laws.{Without, joined, ACutJoinedAgainIsTheBytes, WhatIsJoinedIsCutThere, LinesJoinedAgainAreTheText, LinesAreReadAsTheyAreWritten}
 
 pub a_cut_joined_again_is_the_bytes : ACutJoinedAgainIsTheBytes
 a_cut_joined_again_is_the_bytes s [] = (refl, tt {0})

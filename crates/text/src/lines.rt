@@ -32,7 +32,7 @@ pub fn next_line(text: &[u8]) -> Option<(&[u8], &[u8])>
 }
 
 // The lines of a text, in turn: seen as the lines that are still to come.
-#[derive(Clone, Drop)]
+#[derive(Drop)]
 pub struct Lines<'a> {
     rest: &'a [u8],
 }
@@ -64,4 +64,3 @@ impl<'a> Iterator for Lines<'a> {
         Some(line)
     }
 }
-
