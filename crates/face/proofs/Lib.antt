@@ -1,3 +1,4 @@
 pub mod Indexes
+pub mod Listing
 pub mod Looking
 pub mod SameParts

@@ -1,6 +1,13 @@
--- How a fault changes on its way up.
-use Rattle.std.specs.Prelude.{◌≡◌, ◌+◌, ◌<◌, ◌≤◌, min}
+-- A fault as it is found, and how it changes on its way up.
+use Rattle.std.specs.Prelude.{◌≡◌, ℕ, ◌+◌, ◌<◌, ◌≤◌, min}
+use Rattle.face.specs.declared.faults.Cause.{Cause}
 use Rattle.face.specs.declared.faults.Fault.{Fault}
+use Rattle.face.specs.declared.faults.Layer.{Layer}
+use Rattle.face.specs.declared.keys.Key.{Key}
+
+-- the fault of a key that a layer finds at a place: no layer has passed it up
+abbrev pub found : Layer → Cause → Key → ℕ → Fault
+found layer cause key place = record { cause = cause; layer = layer; place = place; glyph = key.glyph; passed = 0 }
 
 -- the same fault, one layer further up: only the number of layers that passed it up grows, and stops at 255
 pub record Whole (f g : Fault) : Type 0 where

@@ -1,5 +1,7 @@
 ghost use Rattle.std.specs.Prelude.{◌≡◌};
-ghost use Rattle.face.specs.Faults.{Whole, passed_up};
+ghost use Rattle.face.specs.Faults.{Whole, passed_up, found};
+
+use crate::keys::Key;
 
 // The question that a face had to answer with no.
 #[derive(Clone, Copy, PartialEq, Eq, Debug)]
@@ -35,6 +37,19 @@ pub struct Fault {
 }
 
 impl Fault {
+    // The fault of a key as a layer finds it, which none has passed up yet.
+    pub fn new(layer: Layer, cause: Cause, key: Key, place: u32) -> Fault
+        ensures { result ≡ found layer cause key place }
+    {
+        Fault {
+            cause,
+            layer,
+            place,
+            glyph: key.glyph,
+            passed: 0,
+        }
+    }
+
     // The fault as one more layer passes it up: whole, and counted.
     pub fn passed_up(self) -> Fault
         ensures value { result ≡ passed_up self }

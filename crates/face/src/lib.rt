@@ -4,17 +4,21 @@
 
 pub mod bounds;
 mod clamping;
+pub mod entries;
 pub mod faces;
 pub mod faults;
 pub mod keys;
 pub mod looks;
+pub mod offers;
 pub mod parts;
 pub mod variants;
 
 pub use bounds::LARGEST;
+pub use entries::{Entries, Entry};
 pub use faces::Face;
 pub use faults::{Cause, Fault, Layer};
-pub use keys::{Axis, Key};
+pub use keys::{Axis, Key, NoAxis};
 pub use looks::Look;
+pub use offers::Offer;
 pub use parts::Part;
 pub use variants::Variant;
