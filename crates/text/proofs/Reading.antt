@@ -18,6 +18,7 @@ own = numerals_by_fold _ (search rules) decimal (search rules)
 pub digits_are_a_text : (field : List ℕ) → list_all is_ascii_digit field ≡ true → IsUtf8 field
 digits_are_a_text field all = IsUtf8-from_ascii field (IsAscii-from_digits field (own.to field all))
 
+-- std's `parse` and the length say what `numeral` does
 pub parsed : {E : Type 0} (field : List ℕ) (r : Result ℕ E) → ParsesUnsigned 32 10 field r → length field ≤ 10 → list_all is_ascii_digit field ≡ true
     → result_ok r ≡ numeral field
 parsed {E = E} field (Ok n) h few all = let p = parse_digits own {E = E} 32 field (Ok n) h all in grind (arith, common_steps)
