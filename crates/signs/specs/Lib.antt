@@ -2,4 +2,5 @@ pub mod Fields
 pub mod Laws
 pub mod Piles
 pub mod Questions
+pub mod Refusals
 pub mod Views

@@ -10,12 +10,8 @@ const TAB: u8 = b'\t';
 pub(crate) fn two_fields(line: &[u8]) -> Option<(&[u8], &[u8])>
     ensures { viewed result ≡ two_fields line.now }
 {
-    let (front, Some(back)) = cut(line, TAB) else {
-        return None;
-    };
-    let (_, more) = cut(back, TAB);
-    if more.is_some() {
-        return None;
+    match cut(line, TAB) {
+        (front, Some(back)) if cut(back, TAB).1.is_none() => Some((front, back)),
+        _ => None,
     }
-    Some((front, back))
 }
