@@ -1,5 +1,5 @@
 ghost use Rattle.std.specs.Prelude.{◌≡◌};
-ghost use Rattle.signs.specs.Refusals.{number_of};
+ghost use Rattle.signs.specs.Refusals.{refusal_number};
 
 use math_table::Refusal;
 use thiserror::Error;
@@ -27,7 +27,7 @@ pub(crate) enum Refused {
 impl Refused {
     // The number of the question that got a no.
     fn number(&self) -> u8
-        ensures { result ≡ number_of self.now }
+        ensures { result ≡ refusal_number self.now }
     {
         match self {
             Refused::TooLong { .. } => InputRefusal::TooLong as u8,
