@@ -25,15 +25,11 @@ impl Display for Words<Variant> {
 impl Display for Words<Part> {
     fn fmt<W: fmt::Write>(&self, f: &mut fmt::Formatter<W>) -> fmt::Result {
         let Words(part) = self;
+        let extender = if part.extender { " extender" } else { "" };
         write!(
             f,
-            "face {} glyph {} start {} end {} full {}{}",
-            part.face,
-            part.glyph,
-            part.start,
-            part.end,
-            part.full,
-            if part.extender { " extender" } else { "" }
+            "face {} glyph {} start {} end {} full {}{extender}",
+            part.face, part.glyph, part.start, part.end, part.full
         )
     }
 }

@@ -53,9 +53,10 @@ fn run(rt: &HostRuntime) -> Result<(), Stop> {
 // An error fails it, and is told as it ends.
 fn end_early(rt: &HostRuntime, stop: Stop) -> anyhow::Result<()> {
     match stop {
-        Stop::Refused(_) | Stop::NoPile(_) => Ok(println!(rt; "{stop}")?),
-        Stop::Unread { .. } | Stop::Unwritten(_) => Err(stop.into()),
+        Stop::Refused(_) | Stop::NoPile(_) => println!(rt; "{stop}")?,
+        Stop::Unread { .. } | Stop::Unwritten(_) => return Err(stop.into()),
     }
+    Ok(())
 }
 
 fn main(rt: HostRuntime) -> anyhow::Result<()> {

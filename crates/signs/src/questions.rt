@@ -1,9 +1,10 @@
-ghost use Rattle.std.specs.Prelude.{◌≡◌};
-ghost use Rattle.signs.specs.Questions.{glyph_of, axis_of, asked};
+ghost use Rattle.std.specs.Prelude.{◌≡◌, None, MatchOption};
+ghost use Rattle.std.specs.Result.{result_ok};
+ghost use Rattle.signs.specs.Questions.{asked};
 ghost use Rattle.text.specs.Numbers.{numeral};
 
 use crate::fields::two_fields;
-use face::{Axis, Key};
+use face::Key;
 use text::number;
 use thiserror::Error;
 
@@ -18,22 +19,13 @@ pub(crate) enum BadQuestion {
     NoAxis,
 }
 
-// The glyph in its field.
-fn glyph(field: &[u8]) -> Result<u16, BadQuestion>
-    ensures { result ≡ glyph_of (numeral field.now) }
+// The number in a field, as what it stands for.
+fn number_as<T: TryFrom<u32>>(field: &[u8]) -> Option<T>
+where
+    T::Error: Drop,
+    ensures { MatchOption (numeral field.now) (result ≡ None) (λ n. (r : _) × T.try_from_gives n r × (result ≡ result_ok r)) }
 {
-    number(field)
-        .and_then(|number| u16::try_from(number).ok())
-        .ok_or(BadQuestion::NoGlyph)
-}
-
-// The axis in its field.
-fn axis(field: &[u8]) -> Result<Axis, BadQuestion>
-    ensures { result ≡ axis_of (numeral field.now) }
-{
-    number(field)
-        .and_then(|number| Axis::try_from(number).ok())
-        .ok_or(BadQuestion::NoAxis)
+    T::try_from(number(field)?).ok()
 }
 
 // The key that a line asks about.
@@ -41,7 +33,7 @@ pub(crate) fn question(line: &[u8]) -> Result<Key, BadQuestion>
     ensures { result ≡ asked line.now }
 {
     let (front, back) = two_fields(line).ok_or(BadQuestion::NotTwoFields)?;
-    let glyph = glyph(front)?;
-    let axis = axis(back)?;
+    let glyph = number_as(front).ok_or(BadQuestion::NoGlyph)?;
+    let axis = number_as(back).ok_or(BadQuestion::NoAxis)?;
     Ok(Key { glyph, axis })
 }
