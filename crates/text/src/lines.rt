@@ -9,15 +9,6 @@ use std::marker::Model;
 
 const LINE_FEED: u8 = b'\n';
 
-// The first line, without its line feed, and what follows it.
-fn first_line(text: &[u8]) -> (&[u8], &[u8])
-    ensures line { result.0.now ≡ before 10 text.now }
-    ensures rest { result.1.now ≡ unwrap_or (after 10 text.now) [] }
-{
-    let (line, rest) = cut(text, LINE_FEED);
-    (line, rest.unwrap_or(&[]))
-}
-
 // The first line, without its line feed, and the text after it; none in an empty text.
 #[tactic(auto, using(crate::proofs::Parting::first_line, crate::proofs::Parting::rest_shorter))]
 pub fn next_line(text: &[u8]) -> Option<(&[u8], &[u8])>
@@ -28,7 +19,8 @@ pub fn next_line(text: &[u8]) -> Option<(&[u8], &[u8])>
     if text.is_empty() {
         return None;
     }
-    Some(first_line(text))
+    let (line, rest) = cut(text, LINE_FEED);
+    Some((line, rest.unwrap_or(&[])))
 }
 
 // The lines of a text, in turn: seen as the lines that are still to come.
