@@ -3,4 +3,3 @@ pub mod Laws
 pub mod Piles
 pub mod Questions
 pub mod Refusals
-pub mod Views
