@@ -6,13 +6,19 @@ mod readings;
 mod tables;
 
 use anyhow::anyhow;
-use face::{Axis, Face, Key};
+use face::{Axis, Key};
 use layers::{Cap, Fallback, Scale};
 use math_table::MathTable;
-use readings::{Way, shortest_reading};
+use readings::{shortest_reading, sum_by_index, sum_found_once};
 use tables::{GLYPH, table_of};
 
 const COUNTS: [u16; 4] = [1000, 2000, 4000, 8000];
+
+// The only key that a table knows.
+const KEY: Key = Key {
+    glyph: GLYPH,
+    axis: Axis::Upright,
+};
 
 const CAP: u32 = 30_000;
 
@@ -21,19 +27,16 @@ const SCALE: u32 = 5;
 
 const UPPER_SCALE: u32 = 64;
 
-// Tells what was read of a face, and how long it took.
-fn measure<F: Face>(
+// Tells what a way to read gives, and how long it takes.
+fn measure<R: Fn() -> u64>(
     rt: &HostRuntime,
-    face: &F,
     variants: u16,
-    way: Way,
     name: &str,
-) -> anyhow::Result<()> {
-    let key = Key {
-        glyph: GLYPH,
-        axis: Axis::Upright,
-    };
-    let reading = shortest_reading(rt, face, key, way)?;
+    read: R,
+) -> anyhow::Result<()>
+    requires { R.IsAlwaysCallable read }
+{
+    let reading = shortest_reading(rt, read)?;
     println!(rt; "{variants} variants {name}: sum {}", reading.sum)?;
     let microseconds = reading.time.as_secs_f64() * 1e6;
     eprintln!(rt; "{variants} variants {name}: {microseconds:.1} microseconds")?;
@@ -48,16 +51,12 @@ fn measure_all(rt: &HostRuntime, variants: u16) -> anyhow::Result<()> {
         return Err(anyhow!("no face is made of a table"));
     };
     let pile = Cap::new(Scale::new(Fallback { first, second }, SCALE), CAP);
-    measure(rt, &pile, variants, Way::ByIndex, "by index")?;
-    measure(rt, &pile, variants, Way::FoundOnce, "found once")?;
     let judging = Scale::new(pile, UPPER_SCALE);
-    measure(
-        rt,
-        &judging,
-        variants,
-        Way::FoundOnce,
-        "found once and judged",
-    )
+    measure(rt, variants, "by index", || sum_by_index(&pile, KEY))?;
+    measure(rt, variants, "found once", || sum_found_once(&pile, KEY))?;
+    measure(rt, variants, "found once and judged", || {
+        sum_found_once(&judging, KEY)
+    })
 }
 
 fn main(rt: HostRuntime) -> anyhow::Result<()> {

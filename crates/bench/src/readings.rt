@@ -1,18 +1,11 @@
-use face::{Face, Key};
+ghost use Rattle.std.specs.Iterator.{IsFinite};
+
+use face::{Face, Key, Offer, Variant};
 use std::io;
 use std::time::{Duration, Instant};
 
 // How often a key is read.
 const TIMES: u16 = 200;
-
-// How the variants of a key are asked for.
-#[derive(Clone, Copy)]
-pub(crate) enum Way {
-    // Each by the key and its index.
-    ByIndex,
-    // The key is found once, and each is asked for by what was found.
-    FoundOnce,
-}
 
 // What a reading gives, and how long it took.
 #[derive(Clone, Copy)]
@@ -21,52 +14,45 @@ pub(crate) struct Reading {
     pub(crate) time: Duration,
 }
 
-fn sum_by_index<F: Face>(face: &F, key: Key, variants: u16) -> u64 {
-    let mut sum: u64 = 0;
-    for index in 0..variants {
-        if let Some(variant) = face.variant(key, index) {
-            sum = sum.saturating_add(u64::from(variant.advance));
-        }
-    }
-    sum
+fn sum_of_advances<I: Iterator<Item = Variant>>(variants: I) -> u64
+    requires can { I.can_next variants }
+    requires ends { IsFinite (I.remaining variants) }
+{
+    variants.fold(
+        0,
+        |sum: u64, variant| sum.saturating_add(u64::from(variant.advance)),
+    )
 }
 
-fn sum_found_once<F: Face>(face: &F, key: Key, variants: u16) -> u64 {
-    let Some(found) = face.find(key) else {
-        return 0;
-    };
-    let mut sum: u64 = 0;
-    for index in 0..variants {
-        if let Some(variant) = face.variant_of(found, index) {
-            sum = sum.saturating_add(u64::from(variant.advance));
+// The sum of the advances of all variants of a key, each asked for by the key and its index.
+pub(crate) fn sum_by_index<F: Face>(face: &F, key: Key) -> u64 {
+    match face.look(key) {
+        Ok(Some(look)) => {
+            sum_of_advances((0..look.variants).filter_map(|index| face.variant(key, index)))
         }
+        _ => 0,
     }
-    sum
 }
 
-// The sum of the advances of all variants of a key.
-fn sum_of_advances<F: Face>(face: &F, key: Key, way: Way) -> u64 {
-    match (face.look(key), way) {
-        (Ok(Some(look)), Way::ByIndex) => sum_by_index(face, key, look.variants),
-        (Ok(Some(look)), Way::FoundOnce) => sum_found_once(face, key, look.variants),
+// The same sum, where the key is searched for once.
+pub(crate) fn sum_found_once<F: Face>(face: &F, key: Key) -> u64 {
+    match Offer::of(face, key) {
+        Ok(Some(offer)) => sum_of_advances(offer.entries::<Variant>()),
         _ => 0,
     }
 }
 
 // The shortest of many readings: what else the machine does makes a time longer, and never shorter.
-pub(crate) fn shortest_reading<F: Face>(
-    rt: &HostRuntime,
-    face: &F,
-    key: Key,
-    way: Way,
-) -> io::Result<Reading> {
+pub(crate) fn shortest_reading<R: Fn() -> u64>(rt: &HostRuntime, read: R) -> io::Result<Reading>
+    requires { R.IsAlwaysCallable read }
+{
     let mut shortest = Reading {
         sum: 0,
         time: Duration::MAX,
     };
     for _ in 0..TIMES {
         let start = Instant::now(rt)?;
-        let sum = sum_of_advances(face, key, way);
+        let sum = read();
         let time = start.elapsed(rt)?;
         if time < shortest.time {
             shortest = Reading { sum, time };

@@ -1,7 +1,6 @@
 -- What a pile and a question are, in their own words.
 use Rattle.std.specs.Prelude.{◌≡◌, ℕ, ◌≤◌, List, ◌∷◌, ◌++◌, Ok, decimal as written}
-use Rattle.face.specs.declared.keys.Axis.{Axis}
-use Rattle.face.specs.declared.keys.Axis.TheVariants.{Upright, Level}
+use Rattle.face.specs.Axes.{number_of}
 use Rattle.face.specs.declared.keys.Key.{Key}
 use Rattle.signs.specs.declared.piles.Pile.{Pile}
 use Rattle.signs.specs.Piles.{piled}
@@ -15,14 +14,9 @@ written_pile pile = written pile.scale ++ 9 ∷ written pile.cap
 abbrev pub APileIsReadAsItIsWritten : Type 0
 APileIsReadAsItIsWritten = (pile : Pile) → pile.scale ≤ 4294967295 → pile.cap ≤ 4294967295 → piled (written_pile pile) ≡ Ok pile
 
--- the number of an axis
-abbrev pub axis_number : Axis → ℕ
-axis_number Upright = 0
-axis_number Level = 1
-
 -- a key as it is written: glyph, tab, axis
 abbrev pub written_key : Key → List ℕ
-written_key key = written key.glyph ++ 9 ∷ written (axis_number key.axis)
+written_key key = written key.glyph ++ 9 ∷ written (number_of key.axis)
 
 -- every key can be asked about
 abbrev pub AQuestionIsReadAsItIsWritten : Type 0

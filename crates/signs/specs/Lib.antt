@@ -2,4 +2,4 @@ pub mod Fields
 pub mod Laws
 pub mod Piles
 pub mod Questions
-pub mod Views
+pub mod Refusals

@@ -1,5 +1,5 @@
 -- The question in a line.
-use Rattle.std.specs.Prelude.{ℕ, cond, List, Some, None, Ok, Err, Option, Result, ◌==◌, nat_le}
+use Rattle.std.specs.Prelude.{ℕ, if◌then◌else◌, List, Some, None, Ok, Err, Option, Result, ◌==◌, nat_le}
 use Rattle.face.specs.declared.keys.Axis.{Axis}
 use Rattle.face.specs.declared.keys.Axis.TheVariants.{Upright, Level}
 use Rattle.face.specs.declared.keys.Key.{Key}
@@ -11,12 +11,12 @@ use Rattle.text.specs.Numbers.{numeral}
 -- a glyph is a number from 0 to 65535
 abbrev pub glyph_of : Option ℕ → Result ℕ BadQuestion
 glyph_of None = Err NoGlyph
-glyph_of (Some n) = cond (nat_le n 65535) (Ok n) (Err NoGlyph)
+glyph_of (Some n) = if nat_le n 65535 then Ok n else Err NoGlyph
 
 -- an axis is 0 or 1
 abbrev pub axis_of : Option ℕ → Result Axis BadQuestion
 axis_of None = Err NoAxis
-axis_of (Some n) = cond (n == 0) (Ok Upright) (cond (n == 1) (Ok Level) (Err NoAxis))
+axis_of (Some n) = if n == 0 then Ok Upright else (if n == 1 then Ok Level else Err NoAxis)
 
 -- a glyph and an axis, and else what is wrong first
 abbrev pub keyed : Result ℕ BadQuestion → Result Axis BadQuestion → Result Key BadQuestion

@@ -1,109 +1,95 @@
-ghost use Rattle.std.specs.Prelude.{◌≡◌, codes};
-ghost use Rattle.face.specs.declared.keys.Axis.TheVariants.{Upright, Level};
+ghost use Rattle.std.specs.Iterator.{IsFinite};
 
 use crate::questions::question;
-use face::{Axis, Face, Fault, Key, Look};
-use std::io;
+use face::{Face, Fault, Key, Offer, Part, Variant};
+use std::fmt::Display;
 use std::io::Write;
-use text::next_line;
+use std::{fmt, io};
+use text::Lines;
 
-fn axis_word(axis: Axis) -> &'static str
-    ensures { result.now ≡ elim axis [ Upright ↦ codes "upright" | Level ↦ codes "level" ] }
+// A value in the words of an answer.
+#[derive(Clone, Copy)]
+struct Words<T>(T);
+
+impl Display for Words<Variant> {
+    fn fmt<W: fmt::Write>(&self, f: &mut fmt::Formatter<W>) -> fmt::Result {
+        let Words(variant) = self;
+        write!(
+            f,
+            "face {} glyph {} advance {}",
+            variant.face, variant.glyph, variant.advance
+        )
+    }
+}
+
+impl Display for Words<Part> {
+    fn fmt<W: fmt::Write>(&self, f: &mut fmt::Formatter<W>) -> fmt::Result {
+        let Words(part) = self;
+        let extender = if part.extender { " extender" } else { "" };
+        write!(
+            f,
+            "face {} glyph {} start {} end {} full {}{extender}",
+            part.face, part.glyph, part.start, part.end, part.full
+        )
+    }
+}
+
+impl Display for Words<Fault> {
+    fn fmt<W: fmt::Write>(&self, f: &mut fmt::Formatter<W>) -> fmt::Result {
+        let Words(fault) = self;
+        write!(
+            f,
+            "cause {} layer {} place {} glyph {} passed {}",
+            fault.cause as u8, fault.layer as u8, fault.place, fault.glyph, fault.passed
+        )
+    }
+}
+
+// Entries, one a line, each with its index.
+fn print_entries<W: Write, I: Iterator>(out: &mut W, kind: &str, entries: I) -> io::Result<()>
+where
+    I::Item: Display + Drop,
+    requires can { I.can_next entries }
+    requires ends { IsFinite (I.remaining entries) }
 {
-    match axis {
-        Axis::Upright => "upright",
-        Axis::Level => "level",
-    }
-}
-
-fn print_variants<W: Write, F: Face>(
-    out: &mut W,
-    face: &F,
-    found: F::Found,
-    count: u16,
-) -> io::Result<()> {
-    for index in 0..count {
-        if let Some(variant) = face.variant_of(found, index) {
-            writeln!(
-                out,
-                "  variant {index}: face {} glyph {} advance {}",
-                variant.face, variant.glyph, variant.advance
-            )?;
-        }
+    for (index, entry) in (0usize..).zip(entries) {
+        writeln!(out, "  {kind} {index}: {entry}")?;
     }
     Ok(())
 }
 
-fn print_parts<W: Write, F: Face>(
-    out: &mut W,
-    face: &F,
-    found: F::Found,
-    count: u16,
-) -> io::Result<()> {
-    for index in 0..count {
-        if let Some(part) = face.part_of(found, index) {
-            let extender = if part.extender { " extender" } else { "" };
-            writeln!(
-                out,
-                "  part {index}: face {} glyph {} start {} end {} full {}{extender}",
-                part.face, part.glyph, part.start, part.end, part.full
-            )?;
-        }
-    }
-    Ok(())
-}
-
-fn print_fault<W: Write>(out: &mut W, fault: Fault) -> io::Result<()> {
-    writeln!(
-        out,
-        "fault cause {} layer {} place {} glyph {} passed {}",
-        fault.cause as u8, fault.layer as u8, fault.place, fault.glyph, fault.passed
-    )
-}
-
-fn print_construction<W: Write, F: Face>(
-    out: &mut W,
-    face: &F,
-    key: Key,
-    look: Look,
-) -> io::Result<()> {
+fn print_construction<W: Write, F: Face>(out: &mut W, offer: &Offer<F>) -> io::Result<()> {
+    let look = offer.look();
     writeln!(out, "construction")?;
     writeln!(out, "  limit {}", look.limit)?;
     writeln!(out, "  least overlap {}", look.least)?;
-    if let Some(found) = face.find(key) {
-        print_variants(out, face, found, look.variants)?;
-        print_parts(out, face, found, look.parts)?;
-    }
-    Ok(())
+    print_entries(out, "variant", offer.entries::<Variant>().map(Words))?;
+    print_entries(out, "part", offer.entries::<Part>().map(Words))
 }
 
 // What a face says of a key.
 fn print_key<W: Write, F: Face>(out: &mut W, face: &F, key: Key) -> io::Result<()> {
-    write!(out, "glyph {} {}: ", key.glyph, axis_word(key.axis))?;
-    match face.look(key) {
+    write!(out, "glyph {} {}: ", key.glyph, key.axis)?;
+    match Offer::of(face, key) {
         Ok(None) => writeln!(out, "unknown"),
-        Ok(Some(look)) => print_construction(out, face, key, look),
-        Err(fault) => print_fault(out, fault),
+        Ok(Some(offer)) => print_construction(out, &offer),
+        Err(fault) => writeln!(out, "fault {}", Words(fault)),
     }
 }
 
-// The answers to the questions in a text, one for each line. A bad line is told, and the rest goes on.
-// The text follows the first line, which asks nothing, so that its lines are counted from 2.
+// The answers to questions, one for each line. A bad line is told, and the rest goes on.
+// The lines follow the first line, which asks nothing, so that they are counted from 2.
 pub(crate) fn answer_lines<W: Write, F: Face>(
     out: &mut W,
-    text: &[u8],
+    questions: Lines,
     face: &F,
 ) -> io::Result<()> {
-    let mut rest = text;
-    let mut count: usize = 1;
-    while let Some((line, after)) = next_line(rest) {
-        count += 1;
-        write!(out, "line {count}: ")?;
+    for (number, line) in (2usize..).zip(questions) {
+        write!(out, "line {number}: ")?;
         match question(line) {
             Ok(key) => print_key(out, face, key)?,
             Err(bad) => writeln!(out, "{bad}")?,
         }
-        rest = after;
     }
     Ok(())
 }

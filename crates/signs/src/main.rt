@@ -18,7 +18,7 @@ use piles::pile_of;
 use refusals::Refused;
 use std::io::{BufWriter, Write};
 use stops::Stop;
-use text::next_line;
+use text::Lines;
 
 const FIRST_TABLE: &str = "face0.math";
 
@@ -26,28 +26,25 @@ const SECOND_TABLE: &str = "face1.math";
 
 // A face from the bytes of a table, under its number.
 fn table_face<'a>(
-    name: &'static str,
+    input: &'static str,
     table: &'a [u8],
     number: u8,
 ) -> Result<MathTable<'a>, Refused> {
-    match MathTable::new(table, number) {
-        Ok(face) => Ok(face),
-        Err(refusal) => Err(Refused::no_table(name, refusal)),
-    }
+    MathTable::new(table, number).map_err(|refusal| Refused::NoTable { input, refusal })
 }
 
 fn run(rt: &HostRuntime) -> Result<(), Stop> {
     let first_bytes = read_table(rt, FIRST_TABLE)?;
     let second_bytes = read_table(rt, SECOND_TABLE)?;
-    let lines = read_lines(rt)?;
+    let text = read_lines(rt)?;
     let first = table_face(FIRST_TABLE, first_bytes.as_slice(), 0)?;
     let second = table_face(SECOND_TABLE, second_bytes.as_slice(), 1)?;
+    let mut lines = Lines::new(text.as_slice());
     // An empty input has an empty first line.
-    let (line, questions) = next_line(lines.as_slice()).unwrap_or((&[], &[]));
-    let pile = pile_of(line)?;
+    let pile = pile_of(lines.next().unwrap_or(&[]))?;
     let face = Cap::new(Scale::new(Fallback { first, second }, pile.scale), pile.cap);
     let mut out = BufWriter::new(rt.alloc(), rt.stdout())?;
-    answer_lines(&mut out, questions, &face)?;
+    answer_lines(&mut out, lines, &face)?;
     out.flush()?;
     Ok(())
 }
@@ -56,16 +53,12 @@ fn run(rt: &HostRuntime) -> Result<(), Stop> {
 // An error fails it, and is told as it ends.
 fn end_early(rt: &HostRuntime, stop: Stop) -> anyhow::Result<()> {
     match stop {
-        Stop::Refused(refused) => println!(rt; "{refused}")?,
-        Stop::NoPile(bad) => println!(rt; "line 1: {bad}")?,
-        Stop::Failed(error) => return Err(error),
+        Stop::Refused(_) | Stop::NoPile(_) => println!(rt; "{stop}")?,
+        Stop::Unread { .. } | Stop::Unwritten(_) => return Err(stop.into()),
     }
     Ok(())
 }
 
 fn main(rt: HostRuntime) -> anyhow::Result<()> {
-    match run(&rt) {
-        Ok(()) => Ok(()),
-        Err(stop) => end_early(&rt, stop),
-    }
+    run(&rt).or_else(|stop| end_early(&rt, stop))
 }

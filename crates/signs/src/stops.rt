@@ -1,29 +1,20 @@
 use crate::piles::BadPile;
 use crate::refusals::Refused;
 use std::io;
+use thiserror::Error;
 
 // Why the program ends before it has answered every line.
-#[derive(Drop)]
+#[derive(Debug, Drop, Error)]
 pub(crate) enum Stop {
-    Refused(Refused),
-    NoPile(BadPile),
-    Failed(anyhow::Error),
-}
-
-impl From<Refused> for Stop {
-    fn from(refused: Refused) -> Stop {
-        Stop::Refused(refused)
-    }
-}
-
-impl From<BadPile> for Stop {
-    fn from(bad: BadPile) -> Stop {
-        Stop::NoPile(bad)
-    }
-}
-
-impl From<io::Error> for Stop {
-    fn from(error: io::Error) -> Stop {
-        Stop::Failed(error.into())
-    }
+    #[error(transparent)]
+    Refused(#[from] Refused),
+    #[error("line 1: {0}")]
+    NoPile(#[from] BadPile),
+    #[error("{input}: {error}")]
+    Unread {
+        input: &'static str,
+        error: io::Error,
+    },
+    #[error(transparent)]
+    Unwritten(#[from] io::Error),
 }

@@ -1,25 +1,20 @@
--- The steps of a search for a separator.
-use Rattle.std.proofs.Common.{◌≡◌, ℕ, ◌+◌, ◌<◌, ◌≤◌, List, ◌++◌, length, get_or, take, drop, Some, None, ◌∙◌}
-use Rattle.std.proofs.lemmas.List.{take_more, drop_more, append_assoc, append-nil, take_all, drop_all}
-use Rattle.std.proofs.lemmas.Bool.{eq-eqb, ne_eqb}
+-- A cut, by the index of the first separator.
+use Rattle.std.proofs.Common.{◌≡◌, ℕ, ◌+◌, ◌==◌, if◌then◌else◌, suc, List, [], ◌∷◌, take, drop, Some, refl, arith}
+use Rattle.std.proofs.lemmas.Grind.{common_steps}
+use Rattle.std.specs.List.{position}
+use Rattle.std.specs.Option.{option_map, option_map_or}
 use Rattle.text.specs.Cuts.{before, after}
 
-module _ (s : ℕ) (xs : List ℕ) (i : ℕ) where
-  -- no separator stands below `i`: what is left gives the answer
-  abbrev pub Passed : Type 0
-  Passed = (before s xs ≡ take i xs ++ before s (drop i xs)) × (after s xs ≡ after s (drop i xs))
+module _ (s : ℕ) where
+  -- the first separator behind one more byte
+  position_more : (b : ℕ) (bs : List ℕ)
+      → position (λ x. x == s) (b ∷ bs) ≡ (if b == s then Some 0 else option_map suc (position (λ x. x == s) bs))
+  position_more b bs = grind (arith, common_steps)
 
-  pub passed_here : i < length xs → get_or xs i 0 ≡ s → Passed → (before s xs ≡ take i xs) × (after s xs ≡ Some (drop (i + 1) xs))
-  passed_here l e p =
-      let d = drop_more xs i 0 l in
-      let t = eq-eqb (get_or xs i 0) s e in
-      (p.0 ∙ rw (d, t, append-nil), p.1 ∙ rw (d, t))
+  pub before_at : (bs : List ℕ) → before s bs ≡ option_map_or (λ i. take i bs) (position (λ x. x == s) bs) bs
+  before_at [] = refl
+  before_at (b ∷ bs) = rw (position_more b bs, before_at bs) (grind (arith, common_steps))
 
-  pub passed_all : length xs ≤ i → Passed → (before s xs ≡ xs) × (after s xs ≡ None)
-  passed_all l p = (p.0 ∙ rw (drop_all i xs l, take_all i xs l, append-nil), p.1 ∙ rw (drop_all i xs l))
-
-pub passed_more : (s : ℕ) (xs : List ℕ) (i : ℕ) → i < length xs → (get_or xs i 0 ≡ s → ⊥) → Passed s xs i → Passed s xs (i + 1)
-passed_more s xs i l e p =
-    let d = drop_more xs i 0 l in
-    let t = ne_eqb (get_or xs i 0) s e in
-    (p.0 ∙ rw (d, t, take_more xs i 0 l, append_assoc), p.1 ∙ rw (d, t))
+  pub after_at : (bs : List ℕ) → after s bs ≡ option_map (λ i. drop (i + 1) bs) (position (λ x. x == s) bs)
+  after_at [] = refl
+  after_at (b ∷ bs) = rw (position_more b bs, after_at bs) (grind (arith, common_steps))

@@ -1,5 +1,5 @@
 -- What cuts, lines and numbers are, in their own words.
-use Rattle.std.specs.Prelude.{◌≡◌, ℕ, ◌≤◌, cond, List, [], ◌∷◌, ◌++◌, Some, None, decimal as written, Option, ◌==◌, ◌≢◌}
+use Rattle.std.specs.Prelude.{◌≡◌, ℕ, ◌≤◌, if◌then◌else◌, List, [], ◌∷◌, ◌++◌, Some, None, decimal as written, Option, ◌==◌, ◌≢◌}
 use Rattle.std.specs.List.{AllByRecursion}
 use Rattle.text.specs.Cuts.{before, after}
 use Rattle.text.specs.Lines.{lines}
@@ -34,7 +34,7 @@ joined (line ∷ rest) = line ++ 10 ∷ joined rest
 -- a text with the line feed that its last line may lack
 abbrev pub ended : List ℕ → List ℕ
 ended [] = []
-ended (b ∷ []) = cond (b == 10) (b ∷ []) (b ∷ 10 ∷ [])
+ended (b ∷ []) = if b == 10 then b ∷ [] else b ∷ 10 ∷ []
 ended (b ∷ d ∷ ds) = b ∷ ended (d ∷ ds)
 
 -- lines lose nothing of the text, and hold no line feed

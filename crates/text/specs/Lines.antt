@@ -1,5 +1,5 @@
 -- The lines of a text.
-use Rattle.std.specs.Prelude.{ℕ, cond, List, [], ◌∷◌, ◌==◌}
+use Rattle.std.specs.Prelude.{ℕ, if◌then◌else◌, List, [], ◌∷◌, ◌==◌}
 
 -- a byte in front of the first line, which there may not be yet
 abbrev pub onto : ℕ → List (List ℕ) → List (List ℕ)
@@ -9,4 +9,4 @@ onto b (line ∷ rest) = (b ∷ line) ∷ rest
 -- a line ends in a line feed, which the last may lack
 abbrev pub lines : List ℕ → List (List ℕ)
 lines [] = []
-lines (b ∷ bs) = cond (b == 10) ([] ∷ lines bs) (onto b (lines bs))
+lines (b ∷ bs) = if b == 10 then [] ∷ lines bs else onto b (lines bs)

@@ -7,7 +7,7 @@ mod lines;
 mod numbers;
 
 pub use cuts::cut;
-pub use lines::next_line;
+pub use lines::{Lines, next_line};
 pub use numbers::number;
 
 #[cfg(test)]

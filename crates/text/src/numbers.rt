@@ -1,37 +1,26 @@
-ghost use Rattle.std.specs.Prelude.{◌≡◌, ◌-◌, ◌≤◌, length, if◌then◌else◌, Some, None};
-ghost use Rattle.text.specs.Numbers.{is_digit, digits, decimal, numeral};
+ghost use Rattle.std.specs.Prelude.{◌≡◌};
+ghost use Rattle.std.specs.Char.{is_ascii_digit};
+ghost use Rattle.std.specs.List.{list_all};
+ghost use Rattle.text.specs.Numbers.{numeral};
+
+use std::str;
 
 // Enough for every number of 32 bits.
 const MOST_DIGITS: usize = 10;
 
-// The value of an ASCII digit.
-fn digit(byte: u8) -> Option<u8>
-    ensures { result ≡ (if is_digit byte then Some (byte - 48) else None) }
+fn all_digits(field: &[u8]) -> bool
+    ensures { result ≡ list_all is_ascii_digit field.now }
 {
-    match byte {
-        b'0'..=b'9' => Some(byte - b'0'),
-        _ => None,
-    }
-}
-
-// The value of a few digits; none where another byte is among them.
-fn value(field: &[u8]) -> Option<u64>
-    requires { length field.now ≤ 10 }
-    ensures { result ≡ (if digits field.now then Some (decimal 0 field.now) else None) }
-{
-    let mut value = 0;
-    for byte in field {
-        value = value * 10 + u64::from(digit(*byte)?);
-    }
-    Some(value)
+    field.iter().all(|byte| byte.is_ascii_digit())
 }
 
 // A number of 32 bits, written in one to ten decimal digits.
+#[tactic(auto, using(crate::proofs::Reading::digits_are_a_text, crate::proofs::Reading::parsed))]
 pub fn number(field: &[u8]) -> Option<u32>
     ensures { result ≡ numeral field.now }
 {
-    if field.is_empty() || field.len() > MOST_DIGITS {
+    if field.len() > MOST_DIGITS || !all_digits(field) {
         return None;
     }
-    u32::try_from(value(field)?).ok()
+    str::from_utf8(field).ok()?.parse().ok()
 }

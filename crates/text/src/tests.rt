@@ -1,5 +1,5 @@
 use crate::cuts::cut;
-use crate::lines::next_line;
+use crate::lines::{Lines, next_line};
 use crate::numbers::number;
 use std::test::Fail;
 
@@ -43,4 +43,11 @@ fn lines_in_turn(rt: HostRuntime) -> Result<(), Fail> {
     assert_eq!(rt; third, b"b".as_slice());
     assert!(rt; next_line(rest).is_none());
     Ok(())
+}
+
+#[test]
+fn lines_to_the_end(rt: HostRuntime) {
+    assert!(rt; Lines::new(b"a\n\nb\n").eq([b"a".as_slice(), b"", b"b"]));
+    assert_eq!(rt; Lines::new(b"a\n\nb").count(), 3, "no line feed at the end");
+    assert_eq!(rt; Lines::new(b"").count(), 0);
 }

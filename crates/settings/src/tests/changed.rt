@@ -102,22 +102,29 @@ const ZERO: [(usize, Expected); 27] = [
     (72, Entry(5, "p 52 0 0 0")),
 ];
 
+impl Expected {
+    // What becomes of an entry.
+    fn changed(self, index: usize, entry: &'static str) -> Option<&'static str> {
+        match self {
+            Entry(at, other) if at == index => Some(other),
+            Without(first, last) if first <= index && index <= last => None,
+            _ => Some(entry),
+        }
+    }
+}
+
 // The answer that is expected, in the words of `described_table`.
 fn expected_text(heap: Global, expected: Expected) -> Result<String, Fail> {
     if let Answer(text) = expected {
         return Ok(String::from_str(heap, text)?);
     }
     let mut text = String::new(heap);
-    for (index, entry) in ENTRIES.iter().enumerate() {
-        let kept = match expected {
-            Entry(at, other) if at == index => other,
-            Without(first, last) if first <= index && index <= last => continue,
-            _ => *entry,
-        };
-        if index > 0 {
+    let entries = ENTRIES.iter().enumerate();
+    for entry in entries.filter_map(|(index, entry)| expected.changed(index, entry)) {
+        if !text.is_empty() {
             text.push_str(", ")?;
         }
-        text.push_str(kept)?;
+        text.push_str(entry)?;
     }
     Ok(text)
 }

@@ -16,7 +16,7 @@ fn first_outside(length: usize) -> usize {
 #[test]
 fn truncations(rt: HostRuntime) -> Result<(), Fail> {
     let table = sample();
-    for length in 0..76 {
+    for length in 0..table.len() {
         let found = described_table(rt.alloc(), &table[0..length], 40, Axis::Upright)?;
         let text = match length {
             0 => String::from_str(rt.alloc(), "unknown")?,

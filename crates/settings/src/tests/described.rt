@@ -1,7 +1,10 @@
-use face::{Axis, Face, Fault, Key, LARGEST, Look};
+ghost use Rattle.std.specs.Iterator.{IsFinite};
+
+use face::{Axis, Face, Fault, Key, LARGEST, Look, Part, Variant};
 use math_table::MathTable;
 use std::alloc::Global;
-use std::fmt::Write;
+use std::fmt;
+use std::fmt::{Display, Write};
 use std::test::Fail;
 
 // What a table answers for a key, or `refused 14` where no face is made of it.
@@ -20,7 +23,7 @@ pub fn described<F: Face>(heap: Global, face: &F, key: Key) -> Result<String, Fa
     let mut text = String::new(heap);
     let (variants, parts) = match face.look(key) {
         Ok(Some(look)) => {
-            describe_look(&mut text, look)?;
+            write!(text, "{}", Words(look))?;
             (look.variants, look.parts)
         }
         Ok(None) => {
@@ -28,65 +31,91 @@ pub fn described<F: Face>(heap: Global, face: &F, key: Key) -> Result<String, Fa
             (0, 0)
         }
         Err(fault) => {
-            describe_fault(&mut text, key, fault)?;
+            write!(text, "{}", FaultOf { key, fault })?;
             (0, 0)
         }
     };
-    describe_variants(&mut text, face, key, variants)?;
-    describe_parts(&mut text, face, key, parts)?;
+    // One more is asked for than there are, so that an entry too many would show.
+    describe_entries(
+        &mut text,
+        (0..=variants).filter_map(|index| face.variant(key, index)),
+    )?;
+    describe_entries(
+        &mut text,
+        (0..=parts).filter_map(|index| face.part(key, index)),
+    )?;
     Ok(text)
 }
 
-fn describe_look(text: &mut String, look: Look) -> Result<(), Fail> {
-    if look.limit < LARGEST {
-        write!(text, "limit {}: ", look.limit)?;
-    }
-    write!(text, "{}", look.least)?;
-    Ok(())
-}
-
-fn describe_fault(text: &mut String, key: Key, fault: Fault) -> Result<(), Fail> {
-    write!(text, "fault {} at {}", fault.cause as u8, fault.place)?;
-    if fault.glyph != key.glyph {
-        write!(text, ", glyph {}", fault.glyph)?;
-    }
-    let layer = fault.layer as u8;
-    if layer > 0 {
-        write!(text, ", layer {layer}")?;
-    }
-    if fault.passed > 0 {
-        write!(text, ", passed {}", fault.passed)?;
-    }
-    Ok(())
-}
-
-// One more is asked for than there are, here and below, so that an entry too many would show.
-fn describe_variants<F: Face>(
+fn describe_entries<T: Copy, I: Iterator<Item = T>>(
     text: &mut String,
-    face: &F,
-    key: Key,
-    variants: u16,
-) -> Result<(), Fail> {
-    for index in 0..variants.saturating_add(1) {
-        if let Some(variant) = face.variant(key, index) {
-            write!(text, ", v {} {}", variant.glyph, variant.advance)?;
-        }
+    entries: I,
+) -> Result<(), Fail>
+where
+    Words<T>: Display,
+    requires can { I.can_next entries }
+    requires ends { IsFinite (I.remaining entries) }
+{
+    for entry in entries {
+        write!(text, ", {}", Words(entry))?;
     }
     Ok(())
 }
 
-fn describe_parts<F: Face>(text: &mut String, face: &F, key: Key, parts: u16) -> Result<(), Fail> {
-    for index in 0..parts.saturating_add(1) {
-        if let Some(part) = face.part(key, index) {
-            write!(
-                text,
-                ", p {} {} {} {}",
-                part.glyph, part.start, part.end, part.full
-            )?;
-            if part.extender {
-                text.push_str(" x")?;
-            }
+// A value in a few words.
+#[derive(Drop)]
+struct Words<T>(T);
+
+impl Display for Words<Look> {
+    fn fmt<W: fmt::Write>(&self, f: &mut fmt::Formatter<W>) -> fmt::Result {
+        let Words(look) = self;
+        if look.limit < LARGEST {
+            write!(f, "limit {}: ", look.limit)?;
         }
+        write!(f, "{}", look.least)
     }
-    Ok(())
+}
+
+impl Display for Words<Variant> {
+    fn fmt<W: fmt::Write>(&self, f: &mut fmt::Formatter<W>) -> fmt::Result {
+        let Words(variant) = self;
+        write!(f, "v {} {}", variant.glyph, variant.advance)
+    }
+}
+
+impl Display for Words<Part> {
+    fn fmt<W: fmt::Write>(&self, f: &mut fmt::Formatter<W>) -> fmt::Result {
+        let Words(part) = self;
+        let extender = if part.extender { " x" } else { "" };
+        write!(
+            f,
+            "p {} {} {} {}{extender}",
+            part.glyph, part.start, part.end, part.full
+        )
+    }
+}
+
+// A fault that a key has.
+#[derive(Drop)]
+struct FaultOf {
+    key: Key,
+    fault: Fault,
+}
+
+impl Display for FaultOf {
+    fn fmt<W: fmt::Write>(&self, f: &mut fmt::Formatter<W>) -> fmt::Result {
+        let FaultOf { key, fault } = self;
+        write!(f, "fault {} at {}", fault.cause as u8, fault.place)?;
+        if fault.glyph != key.glyph {
+            write!(f, ", glyph {}", fault.glyph)?;
+        }
+        let layer = fault.layer as u8;
+        if layer > 0 {
+            write!(f, ", layer {layer}")?;
+        }
+        if fault.passed > 0 {
+            write!(f, ", passed {}", fault.passed)?;
+        }
+        Ok(())
+    }
 }

@@ -6,11 +6,10 @@ pub fn with_word<const N: usize>(
     place: usize,
     word: u16,
 ) -> Result<[u8; N], Fail> {
-    if place >= N || place + 1 >= N {
-        return Err(Fail::new("no word of the table"));
-    }
-    let [hi, lo] = word.to_be_bytes();
-    table[place] = hi;
-    table[place + 1] = lo;
+    table
+        .get_mut(place..)
+        .and_then(|rest| rest.get_mut(0..2))
+        .ok_or("no word of the table")?
+        .copy_from_slice(&word.to_be_bytes());
     Ok(table)
 }
