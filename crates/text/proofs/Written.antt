@@ -1,7 +1,7 @@
 -- A number that is written in decimal digits is read again.
-use Rattle.std.proofs.Common.{◌≡◌, ℕ, ◌^◌, ◌<◌, true, length, decimal as written, arith}
+use Rattle.std.proofs.Common.{◌≡◌, ◌≢◌, ℕ, ◌+◌, ◌^◌, ◌<◌, true, [], length, decimal as written, arith}
 use Rattle.std.proofs.lemmas.Fmt.{digits_decimal, digits_value-decimal, length-decimal-le, decimal_nonempty, decimal_by_steps}
-use Rattle.std.proofs.ByRecursion.{All-push}
+use Rattle.std.proofs.lemmas.List.Elements.{All-nil, All-cons, All-push}
 use Rattle.std.proofs.lemmas.Bool.{lt-ltb, le-leb}
 use Rattle.std.specs.Char.{is_ascii_digit}
 use Rattle.std.specs.List.{list_all}
@@ -22,6 +22,6 @@ a_number_is_read_as_it_is_written n most =
 pub written_without : (b n : ℕ) → b < 48 → n < 2 ^ 64 → Without b (written n)
 written_without b n low small =
     decimal_by_steps (λ n ds. Without b ds)
-    (λ n d. (omega arith, tt))
-    (λ n ds d w. All-push (λ x. x ≡ b → ⊥) ds _ w (omega arith))
+    (λ n d. All-cons (λ x. x ≢ b) (48 + n) [] (omega arith) (All-nil _))
+    (λ n ds d w. All-push (λ x. x ≢ b) ds _ w (omega arith))
     n small

@@ -1,13 +1,12 @@
 -- What cuts, lines and numbers are, in their own words.
-use Rattle.std.specs.Prelude.{◌≡◌, ℕ, ◌≤◌, if◌then◌else◌, List, [], ◌∷◌, ◌++◌, Some, None, decimal as written, Option, ◌==◌, ◌≢◌}
-use Rattle.std.specs.List.{AllByRecursion}
+use Rattle.std.specs.Prelude.{◌≡◌, ℕ, ◌≤◌, if◌then◌else◌, All, List, [], ◌∷◌, ◌++◌, Some, None, decimal as written, Option, ◌==◌, ◌≢◌}
 use Rattle.text.specs.Cuts.{before, after}
 use Rattle.text.specs.Lines.{lines}
 use Rattle.text.specs.Numbers.{numeral}
 
 -- no byte is this one
 abbrev pub Without : ℕ → List ℕ → Type 0
-Without b bs = AllByRecursion (λ x. x ≢ b) bs
+Without b bs = All (λ x. x ≢ b) bs
 
 -- the two sides of a cut, the separator between them
 abbrev pub rejoined : ℕ → List ℕ → Option (List ℕ) → List ℕ
@@ -39,11 +38,11 @@ ended (b ∷ d ∷ ds) = b ∷ ended (d ∷ ds)
 
 -- lines lose nothing of the text, and hold no line feed
 abbrev pub LinesJoinedAgainAreTheText : Type 0
-LinesJoinedAgainAreTheText = (text : List ℕ) → (joined (lines text) ≡ ended text) × AllByRecursion (Without 10) (lines text)
+LinesJoinedAgainAreTheText = (text : List ℕ) → (joined (lines text) ≡ ended text) × All (Without 10) (lines text)
 
 -- lines that were joined come back
 abbrev pub LinesAreReadAsTheyAreWritten : Type 0
-LinesAreReadAsTheyAreWritten = (each : List (List ℕ)) → AllByRecursion (Without 10) each → lines (joined each) ≡ each
+LinesAreReadAsTheyAreWritten = (each : List (List ℕ)) → All (Without 10) each → lines (joined each) ≡ each
 
 -- what is printed of a number is read as that number
 abbrev pub ANumberIsReadAsItIsWritten : Type 0
