@@ -1,4 +1,3 @@
 pub mod Indexes
 pub mod Listing
-pub mod Looking
 pub mod SameParts

@@ -7,13 +7,14 @@ use Rattle.face.specs.Bounds.{LARGEST}
 use Rattle.face.specs.Meaning.{Construction}
 use Rattle.layers.specs.Laws.{EachLengthHasAPlace, WhatFitsIsScaled, TheFirstLengthTooLongIsTheFault}
 use Rattle.layers.specs.Scaling.{scaled_construction, lengths, first_too_long, judged}
-use Rattle.face.proofs.Indexes.{none_is_not_some, nth_inside, all_from_nth}
+use Rattle.std.proofs.lemmas.Option.{slice_get_within}
+use Rattle.face.proofs.Indexes.{all_from_nth}
 use Rattle.layers.proofs.Places.{variant_length, part_length, all_fit_none}
 
 module _ (k : ℕ) where
   first_is_found : (from place x : ℕ) (xs : List ℕ) → slice_get xs place ≡ Some x → LARGEST < k * x → ((q y : ℕ) → q < place → slice_get xs q ≡ Some y → k * y ≤ LARGEST)
       → first_too_long k from xs ≡ Some (from + place)
-  first_is_found from place x [] at long fit = absurd (none_is_not_some at)
+  first_is_found from place x [] at long fit = cc
   first_is_found from zero x (y ∷ ys) at long fit =
       let is : y ≡ x = cc in
       let here : from + zero ≡ from = omega arith in
@@ -38,7 +39,7 @@ each_length_has_a_place c =
       least = refl;
       variant = λ i v at.
           let next : 1 + i ≡ suc i = omega arith in
-          ap (slice_get (lengths c)) next ∙ variant_length c.variants _ i (nth_inside c.variants i v at) ∙ ap (option_map (λ v. v.advance)) at;
+          ap (slice_get (lengths c)) next ∙ variant_length c.variants _ i (slice_get_within c.variants i v at) ∙ ap (option_map (λ v. v.advance)) at;
       part = λ i p at.
           let next : 1 + length c.variants + i ≡ suc (length c.variants + i) = omega arith in
           ap (slice_get (lengths c)) next ∙ part_length c.variants c.parts i ∙ ap (option_map (λ p. p.full)) at;

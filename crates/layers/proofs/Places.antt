@@ -11,18 +11,19 @@ use Rattle.face.specs.declared.variants.Variant.{Variant}
 use Rattle.face.specs.Meaning.{Meaning, unknown, faulty, construction}
 use Rattle.layers.specs.Answers.{lengths_of}
 use Rattle.layers.specs.Scaling.{lengths, first_too_long}
-use Rattle.face.proofs.Indexes.{nth_map, nth_front, nth_back}
+use Rattle.std.proofs.lemmas.Option.{slice_get-map}
+use Rattle.face.proofs.Indexes.{nth_front, nth_back}
 
 -- the length of a variant, and of a part, which comes after those of all variants
 pub variant_length : (vs : List Variant) (ys : List ℕ) (i : ℕ) → i < length vs → slice_get (map (λ v. v.advance) vs ++ ys) i ≡ option_map (λ v. v.advance) (slice_get vs i)
-variant_length vs ys i less = nth_front (map (λ v. v.advance) vs) ys i (omega (arith, length-map vs (λ v. v.advance))) ∙ nth_map (λ v. v.advance) vs i
+variant_length vs ys i less = nth_front (map (λ v. v.advance) vs) ys i (omega (arith, length-map vs (λ v. v.advance))) ∙ slice_get-map (λ v. v.advance) vs i
 
 pub part_length : (vs : List Variant) (ps : List Part) (i : ℕ) → slice_get (map (λ v. v.advance) vs ++ map (λ p. p.full) ps) (length vs + i) ≡ option_map (λ p. p.full) (slice_get ps i)
 part_length vs ps i =
     let advances = map (λ v. v.advance) vs in
     let fulls = map (λ p. p.full) ps in
     let as_many : length vs ≡ length advances = sym (length-map vs (λ v. v.advance)) in
-    ap (λ n. slice_get (advances ++ fulls) (n + i)) as_many ∙ nth_back advances fulls i ∙ nth_map (λ p. p.full) ps i
+    ap (λ n. slice_get (advances ++ fulls) (n + i)) as_many ∙ nth_back advances fulls i ∙ slice_get-map (λ p. p.full) ps i
 
 module _ (k : ℕ) where
   -- where every length fits, none is found

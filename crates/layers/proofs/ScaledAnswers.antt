@@ -80,7 +80,7 @@ module _ (k : ℕ) (key : Key) where
 
   judged_none : (c : Construction) (place : Option ℕ) → is_known (looked (judged key place c)) ≡ true → place ≡ None
   judged_none c None e = refl
-  judged_none c (Some place) e = absurd (false≢true e)
+  judged_none c (Some place) e = cc
 
   pub none_too_long : (m : Meaning) → is_known (judged_below k key m) ≡ true → first_too_long k 0 (lengths_of m) ≡ None
   none_too_long unknown e = refl

@@ -51,7 +51,7 @@ longer_largest n k a b = omega arith
 -- a search that finds nothing: the head fits, and nothing is found after it
 none_head : (b : Bool) (place : ℕ) (rest : Option ℕ) → cond (not b) (Some place) rest ≡ None → (b ≡ true) × (rest ≡ None)
 none_head true place rest e = (refl, e)
-none_head false place rest e = let z : ◌≡◌ {A = ℕ} 0 1 = cc in absurd (omega arith)
+none_head false place rest e = cc
 
 pub all_fit : (k place : ℕ) (xs : List ℕ) → first_too_long k place xs ≡ None → All (λ x. k * x ≤ LARGEST) xs
 all_fit k place [] e = All-nil _
