@@ -14,5 +14,5 @@ c 5a "grep -rnE '(131070|131072|262144|1048576|SmallTotals|Small [0-9]|Entries l
 c 5b "grep -rnE 'table: &\[u8\], key: Key|table: &\[u8\],$|found: Option<F::Found>,|out: &mut W,|by: u32,' $S"
 c 6 "grep -rnE '\[u(8|16|32); [A-Z]|&mut \[|(count|index|copies): (usize|u16|u32)\b' $S"
 c 7 "grep -rnE 'enum Way|way: Way|Way::|dyn |: fn\(' $S"
-c 8 "find crates -path '*/proofs/*' -name Answers.antt"
-echo "8 lines: $(find crates -path '*/proofs/*' -name '*.antt' | xargs cat | wc -l)"
+c 8 "find crates -path '*/proofs/*' -name Answers.antt -not -path '*/out/*' -not -path '*/target/*'"
+echo "8 lines: $(find crates -path '*/proofs/*' -name '*.antt' -not -path '*/out/*' -not -path '*/target/*' | xargs cat | wc -l)"
