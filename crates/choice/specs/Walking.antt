@@ -1,5 +1,7 @@
 -- Along the pieces of an assembly, one after the other. This serves private functions.
 use Rattle.std.specs.Prelude.{◌≡◌, ℕ, ◌+◌, ◌-◌, ◌≤◌, min, cond, List, [], replicate, Some, None, Option}
+use Rattle.std.specs.Iterator.Adapters.{repeat_n_count, repeat_n_item}
+use Rattle.std.specs.declared.iter.RepeatN.{RepeatN}
 use Rattle.face.specs.declared.parts.Part.{Part}
 use Rattle.choice.specs.declared.joints.Joints.{Joints}
 use Rattle.choice.specs.declared.placing.Piece.{Piece}
@@ -8,10 +10,10 @@ use Rattle.choice.specs.Pieces.{pieces_from, placed, in_span}
 use Rattle.choice.specs.Spreading.{slacks, unit, spread, stretches, less}
 use Rattle.choice.specs.Tallying.{mosts_after}
 
--- so many copies of a part, if there is one
-abbrev pub standing : Option (Part × ℕ) → List Part
+-- the copies of a part that are still to come, if there is one
+abbrev pub standing : Option (RepeatN Part) → List Part
 standing None = []
-standing (Some row) = replicate row.1 row.0
+standing (Some row) = replicate (repeat_n_count row) (repeat_n_item row)
 
 -- the pieces placed behind another, or behind none
 abbrev pub placed_after : Option Part → List Part → List ℕ → List Piece

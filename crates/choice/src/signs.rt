@@ -36,6 +36,7 @@ pub enum NoSign {
     Faulty(Fault),
 }
 
+// Both by hand: a derived conversion does not say which error it makes.
 impl From<Missing> for NoSign {
     ghost from_gives = { λ missing e. e ≡ IsMissing missing };
 

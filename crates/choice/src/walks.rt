@@ -4,6 +4,8 @@ ghost use Rattle.std.specs.Iterator.{YieldsFirst, item_count};
 ghost use Rattle.choice.specs.Assemblies.{copies as copies_of, pieces};
 
 use face::{Entries, Face, Offer, Part};
+use std::iter;
+use std::iter::RepeatN;
 use std::marker::Model;
 
 // The pieces that are still to come. A contract sees them as that list.
@@ -13,8 +15,8 @@ pub(crate) struct Walk<'a, F: Face> {
     parts: Entries<'a, F, Part>,
     // How often each extender stands in a row.
     repeats: u32,
-    // The latest part, and how many copies of it are still to come.
-    row: Option<(Part, u32)>,
+    // The copies of the latest part that are still to come.
+    row: Option<RepeatN<Part>>,
 }
 
 impl<'a, F: Face> Model for Walk<'a, F> {
@@ -29,10 +31,10 @@ impl<'a, F: Face> Model for Walk<'a, F> {
 }
 
 // How often a part stands in a row.
-fn copies(part: Part, repeats: u32) -> u32
+fn copies(part: Part, repeats: u32) -> usize
     ensures { result ≡ copies_of repeats part }
 {
-    if part.extender { repeats } else { 1 }
+    if part.extender { repeats as usize } else { 1 }
 }
 
 impl<'a, F: Face> Walk<'a, F> {
@@ -58,12 +60,13 @@ impl<'a, F: Face> Iterator for Walk<'a, F> {
     // Parts that stand no time are passed over.
     fn next(&mut self) -> Option<Part> {
         loop {
-            if let Some((part, copies @ 1..)) = self.row {
-                self.row = Some((part, copies - 1));
+            if let Some(row) = &mut self.row
+                && let Some(part) = row.next()
+            {
                 return Some(part);
             }
             let part = self.parts.next()?;
-            self.row = Some((part, copies(part, self.repeats)));
+            self.row = Some(iter::repeat_n(part, copies(part, self.repeats)));
         }
     }
 }

@@ -13,6 +13,7 @@ use crate::parts::Part;
 use crate::variants::Variant;
 
 // What a font offers for stretching signs. Questions change nothing, and repeated they answer alike.
+// Variants and parts have a question each: one over both kinds would need each face's way to read them in their trait.
 pub trait Face {
     // Each key is unknown, has a fault, or has a construction.
     ghost meaning: { Self → TheKey → Meaning };
