@@ -1,25 +1,19 @@
 ghost use Rattle.std.specs.Prelude.{◌≡◌};
-ghost use Rattle.choice.specs.Choosing.{choice, fits as fitting, first_variant};
+ghost use Rattle.choice.specs.Choosing.{choice, first_variant};
 ghost use Rattle.choice.specs.Unbettered.{Unbettered};
 
 use crate::signs::{Missing, NoSign, Sign};
 use crate::totals::Totals;
+use crate::wanted::Wanted;
 use face::{Face, Key, Offer, Variant};
 
-// Is a size at least the target, and at most the limit?
-fn fits(size: u32, target: u64, limit: u32) -> bool
-    ensures { result ≡ fitting target limit size }
-{
-    target <= u64::from(size) && size <= limit
-}
-
 // The first variant that fits.
-fn first_variant<F: Face>(offer: &Offer<F>, target: u64) -> Option<Sign>
-    ensures { result ≡ first_variant target offer.now.limit 0 offer.now.variants }
+fn first_variant<F: Face>(offer: &Offer<F>, wanted: Wanted) -> Option<Sign>
+    ensures { result ≡ first_variant wanted.target wanted.limit 0 offer.now.variants }
 {
-    let look = offer.look();
-    for (variant, index) in offer.entries::<Variant>().zip(0..look.variants) {
-        if fits(variant.advance, target, look.limit) {
+    let count = offer.look().variants;
+    for (variant, index) in offer.entries::<Variant>().zip(0..count) {
+        if wanted.fits(variant.advance) {
             return Some(Sign::Variant { index, variant });
         }
     }
@@ -34,11 +28,11 @@ pub fn choose<F: Face>(face: &F, key: Key, target: u64) -> Result<Sign, NoSign>
     ensures unbettered { Unbettered (F.Face.meaning face.now key) target result }
 {
     let offer = Offer::of(face, key)?.ok_or(Missing::Unknown)?;
-    if let Some(sign) = first_variant(&offer, target) {
+    let limit = offer.look().limit;
+    let wanted = Wanted { target, limit };
+    if let Some(sign) = first_variant(&offer, wanted) {
         return Ok(sign);
     }
-    let sign = Totals::of(&offer)
-        .seek(offer.look().limit, target)
-        .ok_or(Missing::NothingFits)?;
+    let sign = Totals::of(&offer).seek(wanted).ok_or(Missing::NothingFits)?;
     Ok(sign)
 }

@@ -14,6 +14,7 @@ mod stacks;
 mod sums;
 mod totals;
 mod walks;
+mod wanted;
 
 pub use choosing::choose;
 pub use levels::level;

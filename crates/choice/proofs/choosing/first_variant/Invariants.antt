@@ -12,5 +12,5 @@ invariant-loop-variant g l =
       can_next : (goal.iterator-loop-variant g).can_next l.variant-iterator;
       finite : (goal.iterator-loop-variant g).is_finite l.variant-iterator;
       as_many : indexes.start + length left ≡ indexes.end;
-      so_far : first_variant l.target l.offer.limit indexes.start left ≡ first_variant l.target l.offer.limit 0 l.offer.variants;
+      so_far : first_variant l.wanted.target l.wanted.limit indexes.start left ≡ first_variant l.wanted.target l.wanted.limit 0 l.offer.variants;
     }

@@ -7,9 +7,13 @@ use Rattle.choice.proofs.totals.Totals.seek.Given as goal
 -- no count so far reaches the target
 abbrev pub invariant-loop-sums : goal.invariant-loop-sums
 invariant-loop-sums l =
-    (l.repeats ≤ 4097)
-    × ((c : Construction) → Describes l.self c
-    → first (reaches c.least l.limit l.target c.parts) l.repeats (4097 - l.repeats) ≡ repeats c.least l.limit l.target c.parts)
+    let target = l.wanted.target in
+    let limit = l.wanted.limit in
+    record {
+      low : l.repeats ≤ 4097;
+      so_far : (c : Construction) → Describes l.self c
+          → first (reaches c.least limit target c.parts) l.repeats (4097 - l.repeats) ≡ repeats c.least limit target c.parts;
+    }
 
 abbrev pub decreases-loop-sums : goal.decreases-loop-sums
 decreases-loop-sums l = 4097 - l.repeats
