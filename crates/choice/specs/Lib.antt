@@ -2,10 +2,10 @@ pub mod Assemblies
 pub mod Choosing
 pub mod Laws
 pub mod Pieces
+pub mod Sources
 pub mod SpanTells
 pub mod Spans
 pub mod Spreading
-pub mod Steps
 pub mod Sums
 pub mod Tallying
 pub mod Totals

@@ -45,7 +45,7 @@ impl Joints {
         let slack = most.saturating_sub(self.least);
         let more = u32::from(slack > self.level && self.lacking > 0);
         self.lacking -= u64::from(more);
-        most.saturating_sub(slack.min(self.level) + more)
+        most - slack.min(self.level) - more
     }
 
     // The next piece, where it is placed.

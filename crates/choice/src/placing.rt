@@ -1,7 +1,7 @@
 // The pieces of a sign that is taken.
 ghost use Rattle.std.specs.Prelude.{◌≡◌};
 ghost use Rattle.std.specs.Iterator.{YieldsFirst, item_count};
-ghost use Rattle.choice.specs.Pieces.{pieces_of, ready_piece as the_ready_piece};
+ghost use Rattle.choice.specs.Pieces.{pieces_of, ready_piece};
 
 use crate::signs::Sign;
 use crate::stacks::{Stack, stacked};
@@ -21,20 +21,22 @@ pub struct Piece {
 }
 
 // The one piece of a variant.
-fn ready_piece(variant: Variant) -> Piece
-    ensures { result ≡ the_ready_piece variant }
-{
-    Piece {
-        face: variant.face,
-        glyph: variant.glyph,
-        overlap: 0,
-        distance: 0,
+impl From<Variant> for Piece {
+    ghost from_gives = { λ variant piece. piece ≡ ready_piece variant };
+
+    fn from(variant: Variant) -> Piece {
+        Piece {
+            face: variant.face,
+            glyph: variant.glyph,
+            overlap: 0,
+            distance: 0,
+        }
     }
 }
 
 // Where the pieces of a sign come from.
 #[derive(Drop)]
-enum Steps<'a, F: Face> {
+enum Source<'a, F: Face> {
     // A ready-made piece, if it is still to come.
     Ready(Option<Piece>),
     Stacked(Stack<'a, F>),
@@ -43,7 +45,7 @@ enum Steps<'a, F: Face> {
 // The pieces of a sign that are still to come, from the bottom or the left. A contract sees them as that list.
 #[derive(Drop)]
 pub struct Pieces<'a, F: Face> {
-    steps: Steps<'a, F>,
+    source: Source<'a, F>,
 }
 
 impl<'a, F: Face> Model for Pieces<'a, F> {
@@ -52,9 +54,9 @@ impl<'a, F: Face> Model for Pieces<'a, F> {
 
     ghost Value = { List ThePiece };
 
-    ghost use Rattle.choice.specs.Steps.{to_come};
+    ghost use Rattle.choice.specs.Sources.{to_come};
 
-    ghost view = { λ p. to_come p.steps };
+    ghost view = { λ p. to_come p.source };
 }
 
 impl<'a, F: Face> Pieces<'a, F> {
@@ -62,14 +64,14 @@ impl<'a, F: Face> Pieces<'a, F> {
     pub fn new(face: &'a F, key: Key, sign: Sign) -> Pieces<'a, F>
         ensures { result ≡ pieces_of (F.Face.meaning face.now key) sign }
     {
-        let steps = match sign {
-            Sign::Variant { variant, .. } => Steps::Ready(Some(ready_piece(variant))),
+        let source = match sign {
+            Sign::Variant { variant, .. } => Source::Ready(Some(variant.into())),
             Sign::Assembly { repeats, size, .. } => match stacked(face, key, repeats, size) {
-                Some(stack) => Steps::Stacked(stack),
-                None => Steps::Ready(None),
+                Some(stack) => Source::Stacked(stack),
+                None => Source::Ready(None),
             },
         };
-        Pieces { steps }
+        Pieces { source }
     }
 }
 
@@ -81,9 +83,9 @@ impl<'a, F: Face> Iterator for Pieces<'a, F> {
     ghost remaining = { item_count (λ s. s) };
 
     fn next(&mut self) -> Option<Piece> {
-        match &mut self.steps {
-            Steps::Ready(piece) => piece.take(),
-            Steps::Stacked(stack) => stack.next(),
+        match &mut self.source {
+            Source::Ready(piece) => piece.take(),
+            Source::Stacked(stack) => stack.next(),
         }
     }
 }

@@ -31,6 +31,7 @@ pub enum Missing {
 // Why there is no sign for a target.
 #[derive(Clone, Copy, PartialEq, Eq, Debug)]
 pub enum NoSign {
+    // The key is unknown, or nothing fits.
     Missing(Missing),
     // The face cannot say what it offers for the key.
     Faulty(Fault),

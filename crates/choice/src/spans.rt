@@ -8,8 +8,6 @@ use face::{Face, Fault, Key, Offer};
 pub fn span<F: Face>(face: &F, key: Key, repeats: u32) -> Result<Option<(u64, u64)>, Fault>
     ensures { result ≡ span_of (F.Face.meaning face.now key) repeats }
 {
-    let Some(offer) = Offer::of(face, key)? else {
-        return Ok(None);
-    };
-    Ok(Totals::of(&offer).span(repeats))
+    let offer = Offer::of(face, key)?;
+    Ok(offer.and_then(|offer| Totals::of(&offer).span(repeats)))
 }

@@ -78,12 +78,19 @@ impl<'a, F: Face, E: Entry> Iterator for Entries<'a, F, E> {
 }
 
 impl<'a, F: Face> Offer<'a, F> {
+    // The variant, or the part, at an index, counted from 0.
+    pub fn entry<E: Entry>(&self, index: u16) -> Option<E>
+        ensures { result ≡ slice_get (E.list self.now) index }
+    {
+        E::at(self, index)
+    }
+
     // All variants, or all parts, of the construction. They outlive the offer: both only lend the face.
     pub fn entries<E: Entry>(&self) -> Entries<'a, F, E>
         ensures { result ≡ E.list self.now }
     {
         Entries {
-            offer: self.again(),
+            offer: self.copied(),
             indexes: 0..E::count(self),
             kind: PhantomData,
         }

@@ -30,7 +30,8 @@ impl<'a, F: Face> Model for Offer<'a, F> {
 }
 
 impl<'a, F: Face> Offer<'a, F> {
-    // What the face offers for a key, if that is known: it is searched for once, and its entries are then told by what was found.
+    // What the face offers for a key, if that is known. It is searched for once: the entries are then told by what was
+    // found.
     pub fn of(face: &'a F, key: Key) -> Result<Option<Offer<'a, F>>, Fault>
         ensures { result ≡ offered (F.Face.meaning face.now key) }
     {
@@ -46,8 +47,8 @@ impl<'a, F: Face> Offer<'a, F> {
         }))
     }
 
-    // The same once more.
-    pub(crate) fn again(&self) -> Offer<'a, F>
+    // A copy by hand: a type with a lifetime cannot be `Copy`, and `clone` may fail for want of memory.
+    pub(crate) fn copied(&self) -> Offer<'a, F>
         ensures { result ≡ self.now }
     {
         let &Offer {
@@ -72,14 +73,14 @@ impl<'a, F: Face> Offer<'a, F> {
     }
 
     // The variant at an index, counted from 0.
-    pub fn variant(&self, index: u16) -> Option<Variant>
+    pub(crate) fn variant(&self, index: u16) -> Option<Variant>
         ensures { result ≡ slice_get self.now.variants index }
     {
         self.face.variant_of(self.found?, index)
     }
 
     // The part at an index, counted from 0.
-    pub fn part(&self, index: u16) -> Option<Part>
+    pub(crate) fn part(&self, index: u16) -> Option<Part>
         ensures { result ≡ slice_get self.now.parts index }
     {
         self.face.part_of(self.found?, index)

@@ -10,13 +10,14 @@ use Rattle.face.specs.Meaning.{Meaning, unknown, faulty, construction, Construct
 use Rattle.layers.specs.Layers.{raised, fallen_back, capped}
 use Rattle.layers.specs.Scaling.{scaled_variant, scaled_part, scaled_construction, lengths, first_too_long, judged, scaled}
 
--- what holds of all of two lists, one after the other, holds of all of each, and what holds of mapped entries of those they come from
-all_front : {X : Type 0} (P : X → Type 0) (xs ys : List X) → All P (xs ++ ys) → All P xs
-all_front P xs ys all i d less = subst P (get_or_append_left xs ys d i less) (all i d (omega (arith, length-append xs ys)))
+-- of two lists, one after the other
+all_parted : {X : Type 0} (P : X → Type 0) (xs ys : List X) → All P (xs ++ ys) → All P xs × All P ys
+all_parted P xs ys all = (
+  λ i d less. subst P (get_or_append_left xs ys d i less) (all i d (omega (arith, length-append xs ys))),
+  λ i d less. subst P (get_or-append-add xs ys i d) (all (length xs + i) d (omega (arith, length-append xs ys))),
+)
 
-all_back : {X : Type 0} (P : X → Type 0) (xs ys : List X) → All P (xs ++ ys) → All P ys
-all_back P xs ys all i d less = subst P (get_or-append-add xs ys i d) (all (length xs + i) d (omega (arith, length-append xs ys)))
-
+-- of mapped entries, and so of those they come from
 all_unmapped : {X Y : Type 0} (P : Y → Type 0) (f : X → Y) (xs : List X) → All P (map f xs) → All (λ x. P (f x)) xs
 all_unmapped P f xs all i d less = subst P (get_or-map f xs i d) (all i (f d) (omega (arith, length-map xs f)))
 
@@ -76,11 +77,11 @@ fitting k c e =
     let advances = map (λ v. v.advance) c.variants in
     let fulls = map (λ p. p.full) c.parts in
     let all = all_fit k 0 (lengths c) e in
-    let entries = All-tail Fits c.least (advances ++ fulls) all in
+    let lists = all_parted Fits advances fulls (All-tail Fits c.least (advances ++ fulls) all) in
     record {
       least = All-head Fits c.least (advances ++ fulls) all;
-      advances = all_unmapped Fits (λ v. v.advance) c.variants (all_front Fits advances fulls entries);
-      fulls = all_unmapped Fits (λ p. p.full) c.parts (all_back Fits advances fulls entries);
+      advances = all_unmapped Fits (λ v. v.advance) c.variants lists.0;
+      fulls = all_unmapped Fits (λ p. p.full) c.parts lists.1;
     }
 
 module _ (k n : ℕ) (key : Key) where

@@ -61,13 +61,15 @@ impl<F: Face> Face for Scale<F> {
     }
 
     fn variant_of(&self, found: F::Found, index: u16) -> Option<Variant> {
-        let below = self.face.variant_of(found, index)?;
-        Some(self.scaled_variant(below))
+        self.face
+            .variant_of(found, index)
+            .map(|below| self.scaled_variant(below))
     }
 
     fn part_of(&self, found: F::Found, index: u16) -> Option<Part> {
-        let below = self.face.part_of(found, index)?;
-        Some(self.scaled_part(below))
+        self.face
+            .part_of(found, index)
+            .map(|below| self.scaled_part(below))
     }
 
     fn longest(&self) -> u32 {

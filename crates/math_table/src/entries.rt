@@ -4,6 +4,7 @@ ghost use Rattle.math_table.specs.Constructions.{variant_entry, part_entry};
 use crate::words::Reader;
 use face::{Fault, Part, Variant};
 
+// Each reading asks that its own sums fit, and no type says that for all: an entry is as long as its kind.
 impl Reader<'_> {
     // A variant of a face: glyph and advance.
     pub(crate) fn variant_at(&self, face: u8, place: u32) -> Result<Variant, Fault>

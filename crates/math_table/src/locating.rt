@@ -5,7 +5,8 @@ use crate::located::Located;
 use crate::words::{Reader, fault};
 use face::{Axis, Cause, Fault};
 
-// Where MathVariants has, from its beginning, what belongs to an axis: the offset of a coverage table, and the count of construction offsets.
+// Where MathVariants has, from its beginning, what belongs to an axis: the offset of a coverage table, and the count of
+// construction offsets.
 #[derive(Clone, Copy)]
 struct AxisFields {
     coverage: u32,
@@ -21,6 +22,7 @@ struct MathVariants<'a> {
 }
 
 impl MathVariants<'_> {
+    // Those of the key's axis.
     fn fields(&self) -> AxisFields
         ensures coverage { result.coverage ≡ coverage_offset self.now.reader.key.axis }
         ensures count { result.count ≡ count_offset self.now.reader.key.axis }

@@ -87,15 +87,14 @@ impl<'a> Face for MathTable<'a> {
     ghost bounded = { λ s key. bounded_math s.table.now s.face key };
 
     fn look(&self, key: Key) -> Result<Option<Look>, Fault> {
-        let Some(shape) = self.shape(key)? else {
-            return Ok(None);
-        };
-        Ok(Some(Look {
-            limit: LARGEST,
-            least: u32::from(shape.least),
-            variants: shape.variants.count,
-            parts: shape.parts.count,
-        }))
+        Ok(
+            self.shape(key)?.map(|shape| Look {
+                limit: LARGEST,
+                least: u32::from(shape.least),
+                variants: shape.variants.count,
+                parts: shape.parts.count,
+            }),
+        )
     }
 
     fn find(&self, key: Key) -> Option<Found> {

@@ -22,7 +22,7 @@ fn tail_at(table: &[u8], place: u32) -> &[u8]
 }
 
 // A fault of the table itself, at a byte offset.
-// No method of the reader: of a closure that calls one through what it captures, a proof learns nothing.
+// No method of the reader: a closure that calls one through a captured reader was not proved.
 pub(crate) fn fault(cause: Cause, key: Key, place: u32) -> Fault
     ensures { result ≡ fault_at cause key place }
 {

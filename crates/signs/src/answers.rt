@@ -52,6 +52,7 @@ where
     requires can { I.can_next entries }
     requires ends { IsFinite (I.remaining entries) }
 {
+    // Not `enumerate`, which asks for a bound on how many come.
     for (index, entry) in (0usize..).zip(entries) {
         writeln!(out, "  {kind} {index}: {entry}")?;
     }

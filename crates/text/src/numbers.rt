@@ -8,6 +8,7 @@ use std::str;
 // Enough for every number of 32 bits.
 const MOST_DIGITS: usize = 10;
 
+// Are all bytes ASCII digits?
 fn all_digits(field: &[u8]) -> bool
     ensures { result ≡ list_all is_ascii_digit field.now }
 {

@@ -38,8 +38,7 @@ impl<F: Face> Scale<F> {
         ensures { result ≡ judged_below self.now.by key (F.Face.meaning self.now.face key) }
     {
         if self.fits(self.face.longest()) {
-            let below = self.face.look(key).map_err(Fault::passed_up)?;
-            return Ok(below);
+            return self.face.look(key).map_err(Fault::passed_up);
         }
         let Some(offer) = Offer::of(&self.face, key).map_err(Fault::passed_up)? else {
             return Ok(None);

@@ -21,6 +21,7 @@ impl<F: Face> Scale<F> {
         self.by.saturating_mul(length).min(LARGEST)
     }
 
+    // The limit and the least overlap are multiplied.
     pub(super) fn scaled_look(&self, below: Look) -> Look
         ensures { result ≡ look_from self.now.by below }
     {
@@ -31,6 +32,7 @@ impl<F: Face> Scale<F> {
         }
     }
 
+    // The advance is multiplied.
     pub(super) fn scaled_variant(&self, below: Variant) -> Variant
         ensures { result ≡ variant_from self.now.by below }
     {

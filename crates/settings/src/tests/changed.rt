@@ -1,9 +1,14 @@
 use crate::sample::sample;
 use crate::tests::described::described_table;
 use crate::tests::words::with_word;
-use face::Axis;
+use face::{Axis, Key};
 use std::alloc::Global;
 use std::test::Fail;
+
+const KEY: Key = Key {
+    glyph: 40,
+    axis: Axis::Upright,
+};
 
 // What the sample answers for glyph 40: the least overlap, two variants, three parts.
 const ENTRIES: [&str; 6] = [
@@ -132,7 +137,7 @@ fn expected_text(heap: Global, expected: Expected) -> Result<String, Fail> {
 fn check_changes(heap: Global, word: u16, changes: &[(usize, Expected)]) -> Result<(), Fail> {
     for (place, expected) in changes {
         let table = with_word(sample(), *place, word)?;
-        let found = described_table(heap, &table, 40, Axis::Upright)?;
+        let found = described_table(heap, &table, KEY)?;
         let text = expected_text(heap, *expected)?;
         if found.as_str() != text.as_str() {
             return Err(Fail::new(format!(in heap; "at {place}: {found}, not {text}")?));

@@ -1,6 +1,6 @@
 ghost use Rattle.std.specs.Iterator.{IsFinite};
 
-use face::{Axis, Face, Fault, Key, LARGEST, Look, Part, Variant};
+use face::{Face, Fault, Key, LARGEST, Look, Part, Variant};
 use math_table::MathTable;
 use std::alloc::Global;
 use std::fmt;
@@ -8,9 +8,9 @@ use std::fmt::{Display, Write};
 use std::test::Fail;
 
 // What a table answers for a key, or `refused 14` where no face is made of it.
-pub fn described_table(heap: Global, table: &[u8], glyph: u16, axis: Axis) -> Result<String, Fail> {
+pub fn described_table(heap: Global, table: &[u8], key: Key) -> Result<String, Fail> {
     match MathTable::new(table, 0) {
-        Ok(face) => described(heap, &face, Key { glyph, axis }),
+        Ok(face) => described(heap, &face, key),
         Err(refusal) => Ok(format!(in heap; "refused {}", refusal as u8)?),
     }
 }
@@ -23,7 +23,7 @@ pub fn described<F: Face>(heap: Global, face: &F, key: Key) -> Result<String, Fa
     let mut text = String::new(heap);
     let (variants, parts) = match face.look(key) {
         Ok(Some(look)) => {
-            write!(text, "{}", Words(look))?;
+            write!(text, "{}", InWords(look))?;
             (look.variants, look.parts)
         }
         Ok(None) => {
@@ -52,23 +52,23 @@ fn describe_entries<T: Copy, I: Iterator<Item = T>>(
     entries: I,
 ) -> Result<(), Fail>
 where
-    Words<T>: Display,
+    InWords<T>: Display,
     requires can { I.can_next entries }
     requires ends { IsFinite (I.remaining entries) }
 {
     for entry in entries {
-        write!(text, ", {}", Words(entry))?;
+        write!(text, ", {}", InWords(entry))?;
     }
     Ok(())
 }
 
 // A value in a few words.
 #[derive(Drop)]
-struct Words<T>(T);
+struct InWords<T>(T);
 
-impl Display for Words<Look> {
+impl Display for InWords<Look> {
     fn fmt<W: fmt::Write>(&self, f: &mut fmt::Formatter<W>) -> fmt::Result {
-        let Words(look) = self;
+        let InWords(look) = self;
         if look.limit < LARGEST {
             write!(f, "limit {}: ", look.limit)?;
         }
@@ -76,16 +76,16 @@ impl Display for Words<Look> {
     }
 }
 
-impl Display for Words<Variant> {
+impl Display for InWords<Variant> {
     fn fmt<W: fmt::Write>(&self, f: &mut fmt::Formatter<W>) -> fmt::Result {
-        let Words(variant) = self;
+        let InWords(variant) = self;
         write!(f, "v {} {}", variant.glyph, variant.advance)
     }
 }
 
-impl Display for Words<Part> {
+impl Display for InWords<Part> {
     fn fmt<W: fmt::Write>(&self, f: &mut fmt::Formatter<W>) -> fmt::Result {
-        let Words(part) = self;
+        let InWords(part) = self;
         let extender = if part.extender { " x" } else { "" };
         write!(
             f,

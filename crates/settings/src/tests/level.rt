@@ -1,5 +1,5 @@
 use crate::tests::described::described_table;
-use face::Axis;
+use face::{Axis, Key};
 use std::test::Fail;
 
 // A table of level constructions. At 0 the header; at 10 MathVariants, with least overlap 5, no upright coverage,
@@ -32,10 +32,12 @@ fn ranges_and_level_offsets(rt: HostRuntime) -> Result<(), Fail> {
     ];
     for (length, glyph, text) in expected {
         let table = TABLE.get(0..length).ok_or("too long a cut")?;
-        let found = described_table(rt.alloc(), table, glyph, Axis::Level)?;
+        let axis = Axis::Level;
+        let found = described_table(rt.alloc(), table, Key { glyph, axis })?;
         assert_eq!(rt; found.as_str(), text);
     }
-    let upright = described_table(rt.alloc(), TABLE, 40, Axis::Upright)?;
+    let axis = Axis::Upright;
+    let upright = described_table(rt.alloc(), TABLE, Key { glyph: 40, axis })?;
     assert_eq!(rt; upright.as_str(), "unknown");
     Ok(())
 }
