@@ -40,6 +40,7 @@ impl Format {
     }
 
     // The index that the entry at `place` gives to the key's glyph, if it holds it.
+    // It asks that its own sum fits, as each reading does: no type says so for all, since each has its own length.
     fn index_at(self, reader: &Reader, place: u32, position: u32) -> Result<Option<u32>, Fault>
         requires { place + 4 < 2 ^ 32 }
         ensures { result ≡ entry_index reader.now.table.now reader.now.key self place position }

@@ -4,7 +4,7 @@ ghost use Rattle.math_table.specs.Constructions.{variant_entry, part_entry};
 use crate::words::Reader;
 use face::{Fault, Part, Variant};
 
-// Each reading asks that its own sums fit, and no type says that for all: an entry is as long as its kind.
+// Each reading asks that its own sums fit. No type says so for all, since each kind of entry has its own length.
 impl Reader<'_> {
     // A variant of a face: glyph and advance.
     pub(crate) fn variant_at(&self, face: u8, place: u32) -> Result<Variant, Fault>

@@ -46,6 +46,7 @@ impl Reader<'_> {
     }
 
     // Are so many words from `first` on inside the table? They lie side by side, so its length tells.
+    // It asks that its own sum fits, as each reading does: no type says so for all, since each has its own length.
     #[tactic(auto, using(crate::proofs::SideBySide::told_by_length))]
     pub(crate) fn words_inside(&self, words: u32, first: u32) -> Result<(), Fault>
         requires { first + 2 * words < 2 ^ 32 }
