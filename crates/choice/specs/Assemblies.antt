@@ -1,5 +1,5 @@
 -- Assemblies of parts: which are legal, and how long they are.
-use Rattle.std.specs.Prelude.{◌≡◌, ℕ, ◌+◌, ◌-◌, ◌≤◌, min, cond, List, [], ◌∷◌, ◌++◌, length, replicate, filter}
+use Rattle.std.specs.Prelude.{◌≡◌, ℕ, ◌+◌, ◌-◌, ◌≤◌, min, if◌then◌else◌, List, [], ◌∷◌, ◌++◌, length, replicate, filter}
 use Rattle.std.specs.List.{AllZip}
 use Rattle.face.specs.declared.parts.Part.{Part}
 
@@ -17,7 +17,7 @@ sum xs = total (λ x. x) xs
 
 -- at repeat count r each extender stands r times in a row, every other part once
 abbrev pub copies : ℕ → Part → ℕ
-copies r p = cond p.extender r 1
+copies r p = if p.extender then r else 1
 
 -- the pieces at repeat count r, from the bottom or the left
 abbrev pub pieces : ℕ → List Part → List Part

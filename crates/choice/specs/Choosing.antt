@@ -1,5 +1,5 @@
 -- The choice of a sign for a target.
-use Rattle.std.specs.Prelude.{ℕ, zero, suc, ◌+◌, ◌≤◌, min, max, Bool, false, cond, ◌&&◌, List, [], ◌∷◌, length, Some, None, Err, Option, Result, nat_le}
+use Rattle.std.specs.Prelude.{ℕ, zero, suc, ◌+◌, ◌≤◌, min, max, Bool, false, if◌then◌else◌, ◌&&◌, List, [], ◌∷◌, length, Some, None, Err, Option, Result, nat_le}
 use Rattle.std.specs.Option.{option_map, ok_or, option_or}
 use Rattle.face.specs.declared.parts.Part.{Part}
 use Rattle.face.specs.declared.variants.Variant.{Variant}
@@ -24,7 +24,7 @@ fits target limit z = nat_le target z && nat_le z limit
 abbrev pub first_variant : ℕ → ℕ → ℕ → List Variant → Option Sign
 first_variant target limit i [] = None
 first_variant target limit i (v ∷ vs) =
-    cond (fits target limit v.advance) (Some (ReadyMade i v)) (first_variant target limit (i + 1) vs)
+    if fits target limit v.advance then Some (ReadyMade i v) else first_variant target limit (i + 1) vs
 
 -- some size of a span fits
 abbrev pub meets : ℕ → ℕ → Option (ℕ × ℕ) → Bool
@@ -38,7 +38,7 @@ reaches least limit target parts r = meets target limit (span least parts r)
 -- the first number that passes the test, of n numbers from r on
 unfoldable pub first : (ℕ → Bool) → ℕ → ℕ → Option ℕ
 first test r zero = None
-first test r (suc n) = let later = first test (suc r) n in cond (test r) (Some r) later
+first test r (suc n) = let later = first test (suc r) n in if test r then Some r else later
 
 -- the smallest repeat count at which some legal assembly fits: more repeats than an assembly has pieces are never legal
 abbrev pub repeats : ℕ → ℕ → ℕ → List Part → Option ℕ

@@ -1,5 +1,5 @@
 -- The pieces of a sign, from the bottom or the left, each with its distance from the one before.
-use Rattle.std.specs.Prelude.{ℕ, ◌-◌, Bool, false, cond, ◌&&◌, List, [], ◌∷◌, Some, None, Option, nat_le}
+use Rattle.std.specs.Prelude.{ℕ, ◌-◌, Bool, false, if◌then◌else◌, ◌&&◌, List, [], ◌∷◌, Some, None, Option, nat_le}
 use Rattle.face.specs.declared.parts.Part.{Part}
 use Rattle.face.specs.declared.variants.Variant.{Variant}
 use Rattle.face.specs.Meaning.{Meaning, unknown, faulty, construction}
@@ -43,7 +43,7 @@ abbrev pub assembled : Meaning → ℕ → ℕ → List Piece
 assembled unknown r z = []
 assembled (faulty f) r z = []
 assembled (construction c) r z =
-    cond (in_span (span c.least c.parts r) z) (placed (pieces r c.parts) (overlaps c.least c.parts r z)) []
+    if in_span (span c.least c.parts r) z then placed (pieces r c.parts) (overlaps c.least c.parts r z) else []
 
 -- the pieces of a sign
 abbrev pub pieces_of : Meaning → Sign → List Piece

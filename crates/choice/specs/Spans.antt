@@ -1,5 +1,5 @@
 -- The legal sizes at a repeat count.
-use Rattle.std.specs.Prelude.{ℕ, min, Bool, true, cond, ◌&&◌, List, [], ◌∷◌, map, length, Some, None, Ok, Err, Option, Result, nat_le, nat_lt}
+use Rattle.std.specs.Prelude.{ℕ, min, Bool, true, if◌then◌else◌, ◌&&◌, List, [], ◌∷◌, map, length, Some, None, Ok, Err, Option, Result, nat_le, nat_lt}
 use Rattle.face.specs.declared.faults.Fault.{Fault}
 use Rattle.face.specs.declared.parts.Part.{Part}
 use Rattle.face.specs.Meaning.{Meaning, unknown, faulty, construction}
@@ -26,7 +26,7 @@ possible least parts r =
 
 -- the smallest and the largest legal size at repeat count r, or none
 abbrev pub span : ℕ → List Part → ℕ → Option (ℕ × ℕ)
-span least parts r = cond (possible least parts r) (Some (smallest parts r, largest least parts r)) None
+span least parts r = if possible least parts r then Some (smallest parts r, largest least parts r) else None
 
 -- the span of a key: none without a construction
 abbrev pub span_of : Meaning → ℕ → Result (Option (ℕ × ℕ)) Fault

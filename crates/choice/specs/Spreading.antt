@@ -1,5 +1,5 @@
 -- How an excess over the size with every joint at its most is spread over the joints.
-use Rattle.std.specs.Prelude.{ℕ, zero, suc, ◌+◌, ◌-◌, ◌≤◌, min, max, Bool, cond, List, [], ◌∷◌, map, nat_le}
+use Rattle.std.specs.Prelude.{ℕ, zero, suc, ◌+◌, ◌-◌, ◌≤◌, min, max, Bool, if◌then◌else◌, List, [], ◌∷◌, map, nat_le}
 use Rattle.face.specs.declared.parts.Part.{Part}
 use Rattle.choice.specs.Assemblies.{total, pieces, mosts}
 use Rattle.choice.specs.Spans.{smallest}
@@ -20,7 +20,7 @@ filled l ss = total (λ s. min s l) ss
 -- the largest number up to n that passes the test, and 0 where none does
 abbrev pub last : (ℕ → Bool) → ℕ → ℕ
 last test zero = 0
-last test (suc n) = let below = last test n in cond (test (suc n)) (suc n) below
+last test (suc n) = let below = last test n in if test (suc n) then suc n else below
 
 -- the largest number, no larger than the largest slack, that the excess fills
 abbrev pub level : List ℕ → ℕ → ℕ

@@ -1,5 +1,5 @@
 -- What pieces in a row add up to, so that a span takes a few sums. This serves private functions.
-use Rattle.std.specs.Prelude.{ℕ, ◌+◌, ◌-◌, ◌*◌, ◌≤◌, min, max, Bool, true, cond, ◌&&◌, ◌||◌, List, map, length, Some, None, Option, ◌==◌, nat_le, nat_lt}
+use Rattle.std.specs.Prelude.{ℕ, ◌+◌, ◌-◌, ◌*◌, ◌≤◌, min, max, Bool, true, if◌then◌else◌, ◌&&◌, ◌||◌, List, map, length, Some, None, Option, ◌==◌, nat_le, nat_lt}
 use Rattle.face.specs.declared.parts.Part.{Part}
 use Rattle.choice.specs.declared.sums.Sums.{Sums}
 use Rattle.choice.specs.Assemblies.{MOST_PIECES, total, sum, most, mosts}
@@ -50,8 +50,8 @@ grown s more times = record {
 -- the span of pieces in a row that add up to the sums
 abbrev pub span_of_sums : ℕ → Sums → Option (ℕ × ℕ)
 span_of_sums least s =
-    cond (nat_lt 0 s.pieces && (nat_le s.pieces MOST_PIECES && s.roomy))
-    (Some (s.full - s.mosts, s.full - least * (s.pieces - 1))) None
+    if nat_lt 0 s.pieces && (nat_le s.pieces MOST_PIECES && s.roomy)
+    then Some (s.full - s.mosts, s.full - least * (s.pieces - 1)) else None
 
 -- too many pieces, or every size above the limit: further repeats only add to both
 abbrev pub past : ℕ → Sums → Bool
@@ -60,4 +60,4 @@ past limit s = nat_lt MOST_PIECES s.pieces || nat_lt limit (s.full - s.mosts)
 -- the smallest size of a span that fits
 abbrev pub fitting_size : ℕ → ℕ → Option (ℕ × ℕ) → Option ℕ
 fitting_size target limit None = None
-fitting_size target limit (Some s) = cond (nat_le (max target s.0) (min limit s.1)) (Some (max target s.0)) None
+fitting_size target limit (Some s) = if nat_le (max target s.0) (min limit s.1) then Some (max target s.0) else None

@@ -1,5 +1,5 @@
 -- Along the pieces of an assembly, one after the other. This serves private functions.
-use Rattle.std.specs.Prelude.{◌≡◌, ℕ, ◌+◌, ◌-◌, ◌≤◌, min, cond, List, [], replicate, Some, None, Option}
+use Rattle.std.specs.Prelude.{◌≡◌, ℕ, ◌+◌, ◌-◌, ◌≤◌, min, if◌then◌else◌, List, [], replicate, Some, None, Option}
 use Rattle.std.specs.Iterator.Adapters.{repeat_n_count, repeat_n_item}
 use Rattle.std.specs.declared.iter.RepeatN.{RepeatN}
 use Rattle.face.specs.declared.parts.Part.{Part}
@@ -48,4 +48,4 @@ spread_over least parts r excess =
 -- by how much a size is above the smallest of a span, if it lies in the span
 abbrev pub excess_in : Option (ℕ × ℕ) → ℕ → Option ℕ
 excess_in None z = None
-excess_in (Some s) z = cond (in_span (Some s) z) (Some (z - s.0)) None
+excess_in (Some s) z = if in_span (Some s) z then Some (z - s.0) else None

@@ -6,7 +6,7 @@ use Rattle.face.specs.declared.parts.Part.{Part}
 use Rattle.face.specs.declared.variants.Variant.{Variant}
 use Rattle.face.specs.Meaning.{Meaning, unknown, faulty, construction, Construction, looked, variant_at, part_at}
 
--- the construction that a key has, and an empty one where it has none
+-- the construction that a key has; an empty one where it has none, of which nothing is ever offered
 abbrev pub constructed : Meaning → Construction
 constructed unknown = record { limit = 0; least = 0; variants = []; parts = [] }
 constructed (faulty f) = record { limit = 0; least = 0; variants = []; parts = [] }

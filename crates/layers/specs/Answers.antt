@@ -1,6 +1,6 @@
 -- What the layers' functions answer on the way.
 -- Nothing here has to be believed, since every answer about a key is equated with its meaning.
-use Rattle.std.specs.Prelude.{◌≡◌, ℕ, ◌*◌, min, Bool, cond, List, [], Some, None, Ok, Err, Option, Result}
+use Rattle.std.specs.Prelude.{◌≡◌, ℕ, ◌*◌, min, Bool, if◌then◌else◌, List, [], Some, None, Ok, Err, Option, Result}
 use Rattle.std.specs.Option.{option_map}
 use Rattle.face.specs.declared.faults.Fault.{Fault}
 use Rattle.face.specs.declared.keys.Key.{Key}
@@ -46,5 +46,5 @@ lengths_of (construction c) = lengths c
 
 -- the entries of a scaled key: those below with their lengths multiplied if all fit, else none
 pub record Entries (k : ℕ) (m above : Meaning) (all_fit : Bool) : Type 0 where
-  pub variants : (i : ℕ) → variant_at above i ≡ cond all_fit (option_map (variant_from k) (variant_at m i)) None
-  pub parts : (i : ℕ) → part_at above i ≡ cond all_fit (option_map (part_from k) (part_at m i)) None
+  pub variants : (i : ℕ) → variant_at above i ≡ (if all_fit then option_map (variant_from k) (variant_at m i) else None)
+  pub parts : (i : ℕ) → part_at above i ≡ (if all_fit then option_map (part_from k) (part_at m i) else None)

@@ -1,5 +1,5 @@
 -- No construction that a layer offers is too large. This is a proof: nothing in it has to be believed.
-use Rattle.std.specs.Prelude.{◌≡◌, ℕ, ◌+◌, ◌*◌, ◌≤◌, min, max, All, Bool, true, false, cond, not, List, [], ◌∷◌, ◌++◌, map, length, Some, None, Option, nat_le, refl}
+use Rattle.std.specs.Prelude.{◌≡◌, ℕ, ◌+◌, ◌*◌, ◌≤◌, min, max, All, Bool, true, false, if◌then◌else◌, not, List, [], ◌∷◌, ◌++◌, map, length, Some, None, Option, nat_le, refl}
 use Rattle.std.proofs.Common.{mul-le-mul_left, arith, leb-true, subst, get_or, get_or-append-add, length-append}
 use Rattle.std.proofs.lemmas.List.{length-map, get_or_append_left}
 use Rattle.std.proofs.Math.ListN.{get_or-map}
@@ -50,7 +50,7 @@ pub longer_largest : (n k : ℕ) → n ≤ LARGEST → k ≤ LARGEST → max n k
 longer_largest n k a b = omega arith
 
 -- a search that finds nothing: the head fits, and nothing is found after it
-none_head : (b : Bool) (place : ℕ) (rest : Option ℕ) → cond (not b) (Some place) rest ≡ None → (b ≡ true) × (rest ≡ None)
+none_head : (b : Bool) (place : ℕ) (rest : Option ℕ) → (if not b then Some place else rest) ≡ None → (b ≡ true) × (rest ≡ None)
 none_head true place rest e = (refl, e)
 none_head false place rest e = cc
 

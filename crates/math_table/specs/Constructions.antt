@@ -1,5 +1,5 @@
 -- The entries of a construction.
-use Rattle.std.specs.Prelude.{ℕ, ◌+◌, cond, List, [], Ok, Result, ◌==◌, bit_and}
+use Rattle.std.specs.Prelude.{ℕ, ◌+◌, if◌then◌else◌, List, [], Ok, Result, ◌==◌, bit_and}
 use Rattle.face.specs.declared.faults.Fault.{Fault}
 use Rattle.face.specs.declared.keys.Key.{Key}
 use Rattle.face.specs.declared.parts.Part.{Part}
@@ -35,4 +35,4 @@ module _ (table : List ℕ) (face : ℕ) (key : Key) where
 
   -- without an assembly there are no parts
   abbrev pub assembly_parts : (place offset : ℕ) → Result (List Part) Fault
-  assembly_parts place offset = cond (offset == 0) (Ok []) (part_list (place + offset))
+  assembly_parts place offset = if offset == 0 then Ok [] else part_list (place + offset)

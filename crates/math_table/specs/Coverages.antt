@@ -1,5 +1,5 @@
 -- What a coverage table says of a glyph.
-use Rattle.std.specs.Prelude.{ℕ, zero, suc, ◌+◌, ◌-◌, cond, ◌&&◌, List, Some, None, Ok, Err, Option, Result, ◌==◌, nat_le}
+use Rattle.std.specs.Prelude.{ℕ, zero, suc, ◌+◌, ◌-◌, if◌then◌else◌, ◌&&◌, List, Some, None, Ok, Err, Option, Result, ◌==◌, nat_le}
 use Rattle.face.specs.declared.faults.Cause.TheVariants.{CoverageFormat}
 use Rattle.face.specs.declared.faults.Fault.{Fault}
 use Rattle.face.specs.declared.keys.Key.{Key}
@@ -8,7 +8,7 @@ use Rattle.math_table.specs.declared.coverages.Format.TheVariants.{Glyphs, Range
 use Rattle.math_table.specs.Reading.{word, fault_at, bind}
 
 abbrev pub format_of : ℕ → Option Format
-format_of w = cond (w == 1) (Some Glyphs) (cond (w == 2) (Some Ranges) None)
+format_of w = if w == 1 then Some Glyphs else (if w == 2 then Some Ranges else None)
 
 -- an entry is one word or three
 abbrev pub entry_size : Format → ℕ
@@ -19,12 +19,12 @@ entry_size Ranges = 6
 -- in format 2 the index of the range's first glyph and as many more as the glyph comes after that
 abbrev pub entry_index : List ℕ → Key → Format → (place position : ℕ) → Result (Option ℕ) Fault
 entry_index table key Glyphs place position =
-    bind (word table key place) (λ glyph. Ok (cond (glyph == key.glyph) (Some position) None))
+    bind (word table key place) (λ glyph. Ok (if glyph == key.glyph then Some position else None))
 entry_index table key Ranges place position =
     bind (word table key place) (λ start.
     bind (word table key (place + 2)) (λ last.
     bind (word table key (place + 4)) (λ first.
-    Ok (cond (nat_le start key.glyph && nat_le key.glyph last) (Some (first + (key.glyph - start))) None))))
+    Ok (if nat_le start key.glyph && nat_le key.glyph last then Some (first + (key.glyph - start)) else None))))
 
 -- what is found, or else the answer of what comes after
 abbrev pub or_else : {X : Type 0} → Result (Option X) Fault → Option X → Result (Option X) Fault

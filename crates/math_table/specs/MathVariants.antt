@@ -1,5 +1,5 @@
 -- The way from the header to a key's construction.
-use Rattle.std.specs.Prelude.{ℕ, ◌+◌, ◌*◌, cond, List, length, Some, None, Ok, Err, Option, Result, ◌==◌, nat_lt}
+use Rattle.std.specs.Prelude.{ℕ, ◌+◌, ◌*◌, if◌then◌else◌, List, length, Some, None, Ok, Err, Option, Result, ◌==◌, nat_lt}
 use Rattle.face.specs.declared.faults.Cause.TheVariants.{CoverageIndex}
 use Rattle.face.specs.declared.faults.Fault.{Fault}
 use Rattle.face.specs.declared.keys.Axis.{Axis}
@@ -35,9 +35,9 @@ module _ (table : List ℕ) (key : Key) (base : ℕ) where
   abbrev pub construction_offset : ℕ → Result ℕ Fault
   construction_offset index =
       bind (word table key (base + count_offset key.axis)) (λ count.
-      cond (nat_lt index count)
-      (bind (skipped key.axis) (λ before. word table key (base + 10 + 2 * (before + index))))
-      (Err (fault_at CoverageIndex key (base + count_offset key.axis))))
+      if nat_lt index count
+      then bind (skipped key.axis) (λ before. word table key (base + 10 + 2 * (before + index)))
+      else Err (fault_at CoverageIndex key (base + count_offset key.axis)))
 
   -- the least overlap, and where the key's construction begins
   abbrev pub located_from : Result (Option Located) Fault
@@ -50,5 +50,5 @@ module _ (table : List ℕ) (key : Key) (base : ℕ) where
 -- the header has at 8 the offset of MathVariants; an empty table knows no key
 abbrev pub located : List ℕ → Key → Result (Option Located) Fault
 located table key =
-    cond (length table == 0) (Ok None)
-    (bind (word table key 8) (λ base. via base (located_from table key base)))
+    if length table == 0 then Ok None
+    else bind (word table key 8) (λ base. via base (located_from table key base))

@@ -1,5 +1,5 @@
 -- The words of a table, and one reading after another.
-use Rattle.std.specs.Prelude.{ℕ, zero, suc, ◌+◌, ◌*◌, ◌%◌, cond, List, [], ◌∷◌, length, Some, None, Ok, Err, Option, Result, ◌==◌, nat_le, slice_index}
+use Rattle.std.specs.Prelude.{ℕ, zero, suc, ◌+◌, ◌*◌, ◌%◌, if◌then◌else◌, List, [], ◌∷◌, length, Some, None, Ok, Err, Option, Result, ◌==◌, nat_le, slice_index}
 use Rattle.std.specs.Option.{ok_or}
 use Rattle.face.specs.declared.faults.Cause.{Cause}
 use Rattle.face.specs.declared.faults.Cause.TheVariants.{OutsideTable}
@@ -15,7 +15,7 @@ byte_at table place = slice_index table place % 256
 -- the word at an offset, if both its bytes are inside the table; the first byte is the more significant
 abbrev pub word_at : List ℕ → ℕ → Option ℕ
 word_at table place =
-    cond (nat_le (place + 2) (length table)) (Some (byte_at table place * 256 + byte_at table (place + 1))) None
+    if nat_le (place + 2) (length table) then Some (byte_at table place * 256 + byte_at table (place + 1)) else None
 
 -- two bytes tell no number above this
 abbrev pub LARGEST_WORD : ℕ
@@ -41,7 +41,7 @@ on_found (Some x) next = next x
 
 -- an offset of 0 leads nowhere: the key is unknown
 abbrev pub via : {Y : Type 0} → ℕ → Result (Option Y) Fault → Result (Option Y) Fault
-via offset next = cond (offset == 0) (Ok None) next
+via offset next = if offset == 0 then Ok None else next
 
 -- n entries, each `size` bytes after the one before
 abbrev pub entries : {X : Type 0} → (ℕ → Result X Fault) → ℕ → ℕ → ℕ → Result (List X) Fault

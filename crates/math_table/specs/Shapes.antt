@@ -1,6 +1,6 @@
 -- Where the entries of a construction stand: what the code works out before it answers.
 -- Nothing here has to be believed, since every answer is equated with Meanings.antt.
-use Rattle.std.specs.Prelude.{ℕ, zero, suc, ◌+◌, ◌*◌, cond, List, Some, None, Ok, Err, Option, Result, ◌==◌, nat_lt, option_and_then}
+use Rattle.std.specs.Prelude.{ℕ, zero, suc, ◌+◌, ◌*◌, if◌then◌else◌, List, Some, None, Ok, Err, Option, Result, ◌==◌, nat_lt, option_and_then}
 use Rattle.std.specs.Result.{result_ok}
 use Rattle.face.specs.declared.faults.Fault.{Fault}
 use Rattle.face.specs.declared.keys.Key.{Key}
@@ -30,7 +30,7 @@ module _ (table : List ℕ) (key : Key) where
 
   abbrev pub part_run : (place offset : ℕ) → Result Run Fault
   part_run place offset =
-      cond (offset == 0) (Ok (record { count = 0; first = 0 })) (run 5 (place + offset + 4) (place + offset + 6))
+      if offset == 0 then Ok (record { count = 0; first = 0 }) else run 5 (place + offset + 4) (place + offset + 6)
 
   abbrev pub shape_at : Located → Result (Option Shape) Fault
   shape_at l =
@@ -52,7 +52,7 @@ shape_look (Ok (Some s)) =
 
 -- where the entry of a run at an index begins, if it has so many
 abbrev pub place_of : Run → (size index : ℕ) → Option ℕ
-place_of r size i = cond (nat_lt i r.count) (Some (r.first + size * i)) None
+place_of r size i = if nat_lt i r.count then Some (r.first + size * i) else None
 
 -- the entry of a run at an index
 abbrev pub entry_of : {X : Type 0} → (ℕ → Result X Fault) → ℕ → Run → ℕ → Option X
