@@ -8,9 +8,10 @@ ghost use Rattle.choice.specs.Walking.{spread_over, excess_in};
 use crate::joints::Joints;
 use crate::levels::level_and_lacking;
 use crate::placing::Piece;
-use crate::slacks::{MOST_JOINTS, slacks_of};
+use crate::slacks::{MOST_JOINTS, note_slacks};
 use crate::totals::Totals;
 use crate::walks::Walk;
+use arrayvec::ArrayVec;
 use face::{Face, Key, Offer};
 use std::marker::Model;
 
@@ -56,7 +57,8 @@ impl<'a, F: Face> Stack<'a, F> {
         ensures { result ≡ spread_over offer.now.least offer.now.parts repeats excess }
     {
         let least = offer.look().least;
-        let slacks = slacks_of(Walk::along(offer, repeats), least);
+        let mut slacks = ArrayVec::new();
+        note_slacks(Walk::along(offer, repeats), least, &mut slacks);
         let (level, lacking) = level_and_lacking(&slacks, excess);
         Stack {
             walk: Walk::along(offer, repeats),

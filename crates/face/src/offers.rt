@@ -7,6 +7,7 @@ ghost use Rattle.face.specs.Offers.{constructed, offered, Reads};
 use crate::faces::Face;
 use crate::faults::Fault;
 use crate::keys::Key;
+use crate::known::Known;
 use crate::looks::Look;
 use crate::parts::Part;
 use crate::variants::Variant;
@@ -29,22 +30,31 @@ impl<'a, F: Face> Model for Offer<'a, F> {
     ghost invariant = { λ s. Reads (F.Face.meaning s.face.now s.key) s.look (λ i. told (F.Face.variants s.face.now) i s.found) (λ i. told (F.Face.parts s.face.now) i s.found) };
 }
 
-impl<'a, F: Face> Offer<'a, F> {
-    // What the face offers for a key, if that is known. It is searched for once: the entries are then told by what was
-    // found.
-    pub fn of(face: &'a F, key: Key) -> Result<Option<Offer<'a, F>>, Fault>
-        ensures { result ≡ offered (F.Face.meaning face.now key) }
+impl<'a, F: Face> Known<'a, F> {
+    // What the face offers for the key. It is searched for once: the entries are then told by what was found.
+    pub fn offer(&self) -> Offer<'a, F>
+        ensures { result ≡ self.now }
     {
-        let Some(look) = face.look(key)? else {
-            return Ok(None);
-        };
+        let &Known { face, key, look } = self;
         let found = face.find(key);
-        Ok(Some(Offer {
+        Offer {
             face,
             key,
             look,
             found,
-        }))
+        }
+    }
+}
+
+impl<'a, F: Face> Offer<'a, F> {
+    // What the face offers for a key, if that is known.
+    pub fn of(face: &'a F, key: Key) -> Result<Option<Offer<'a, F>>, Fault>
+        ensures { result ≡ offered (F.Face.meaning face.now key) }
+    {
+        let Some(known) = Known::of(face, key)? else {
+            return Ok(None);
+        };
+        Ok(Some(known.offer()))
     }
 
     // A copy by hand: a type with a lifetime cannot be `Copy`, and `clone` may fail for want of memory.

@@ -12,7 +12,8 @@ use Rattle.face.specs.declared.parts.Part.{Part}
 use Rattle.face.specs.declared.variants.Variant.{Variant}
 use Rattle.face.specs.Bounds.{LARGEST}
 use Rattle.face.specs.Faults.{passed_up}
-use Rattle.face.specs.Meaning.{Meaning, unknown, faulty, construction, Construction, looked, variants_of, parts_of}
+use Rattle.face.specs.Meaning.{Meaning, unknown, faulty, construction, Construction, summary, looked, variants_of, parts_of}
+use Rattle.face.specs.Offers.{offered}
 use Rattle.face.proofs.SameParts.{same_part}
 use Rattle.layers.specs.Answers.{times, judged_below, look_from, variant_from, part_from, lengths_of, Entries}
 use Rattle.layers.specs.Limits.{fitting}
@@ -23,6 +24,12 @@ abbrev pub is_known : Result (Option Look) Fault → Bool
 is_known (Ok None) = false
 is_known (Ok (Some look)) = true
 is_known (Err f) = false
+
+-- what is looked at where a construction is offered
+pub looked_offered : (m : Meaning) (c : Construction) → offered m ≡ Ok (Some c) → looked m ≡ Ok (Some (summary c))
+looked_offered unknown c e = cc
+looked_offered (faulty f) c e = cc
+looked_offered (construction d) c e = let is : d ≡ c = cc in ap (λ c. Ok (Some (summary c))) is
 
 -- a product that fits is not stopped
 whole : (k x : ℕ) → k * x ≤ LARGEST → k * x ≡ times k x

@@ -6,13 +6,13 @@ use Rattle.face.specs.declared.parts.Part.{Part}
 use Rattle.face.specs.declared.variants.Variant.{Variant}
 use Rattle.face.specs.Bounds.{LARGEST}
 use Rattle.face.specs.Meaning.{Construction, looked, variant_at, part_at}
-use Rattle.math_table.specs.declared.shapes.Shape.{Shape}
+use Rattle.math_table.specs.declared.runs.Run.{Run}
 use Rattle.math_table.specs.declared.tables.MathTable.{MathTable}
 use Rattle.math_table.specs.Constructions.{variant_entry, part_entry, assembly_parts}
 use Rattle.math_table.specs.Making.{meant}
 use Rattle.math_table.specs.Meanings.{construction_at, offered, meaning_of}
 use Rattle.math_table.specs.MathVariants.{located}
-use Rattle.math_table.specs.Places.{Located, Run}
+use Rattle.math_table.specs.Places.{Located, Shape}
 use Rattle.math_table.specs.Reading.{word, bind, on_found, entries}
 use Rattle.math_table.specs.Shapes.{words_inside, run, part_run, shape_at, shaped, shape_look, shape_variant, shape_part}
 use Rattle.math_table.proofs.Alike.{Alike, answers, fault, BothFind, nothing, found, alike_bind, alike_first, alike_second, alike_step, alike_if}

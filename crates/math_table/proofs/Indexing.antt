@@ -5,7 +5,7 @@ use Rattle.std.proofs.lemmas.Option.{slice_get_cases}
 use Rattle.std.specs.List.{slice_get}
 use Rattle.face.specs.declared.faults.Fault.{Fault}
 use Rattle.math_table.specs.Outcomes.{Comes, answer, fault}
-use Rattle.math_table.specs.Places.{Run}
+use Rattle.math_table.specs.declared.runs.Run.{Run}
 use Rattle.math_table.specs.Reading.{entries}
 use Rattle.math_table.specs.Shapes.{entry_of}
 use Rattle.math_table.proofs.Standing.{answer_holds, Stand, entries_come}

@@ -9,11 +9,11 @@ use Rattle.face.specs.declared.parts.Part.{Part}
 use Rattle.face.specs.declared.variants.Variant.{Variant}
 use Rattle.face.specs.Bounds.{LARGEST}
 use Rattle.math_table.specs.declared.found.Found.{Found}
-use Rattle.math_table.specs.declared.shapes.Shape.{Shape}
+use Rattle.math_table.specs.declared.runs.Run.{Run}
 use Rattle.math_table.specs.declared.tables.MathTable.{MathTable}
 use Rattle.math_table.specs.Constructions.{variant_entry, part_entry}
 use Rattle.math_table.specs.MathVariants.{located}
-use Rattle.math_table.specs.Places.{Located, Run}
+use Rattle.math_table.specs.Places.{Located, Shape}
 use Rattle.math_table.specs.Reading.{word, bind, on_found}
 
 -- n words, one after the other

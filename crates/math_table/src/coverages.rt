@@ -1,4 +1,4 @@
-ghost use Rattle.std.specs.Prelude.{◌≡◌, ◌+◌, ◌^◌, ◌<◌, ◌≤◌};
+ghost use Rattle.std.specs.Prelude.{◌≡◌, ◌≤◌};
 ghost use Rattle.std.specs.Option.{ok_or};
 ghost use Rattle.face.specs.declared.faults.Cause.TheVariants.{CoverageFormat};
 ghost use Rattle.math_table.specs.Coverages.{format_of, entry_size, entry_index, first_holding, coverage_index};
@@ -40,9 +40,9 @@ impl Format {
     }
 
     // The index that the entry at `place` gives to the key's glyph, if it holds it.
-    // It asks that its own sum fits, as each reading does: no type says so for all, since each has its own length.
+    // As each reading does, it asks for a place below 2^20, where no offset wraps.
     fn index_at(self, reader: &Reader, place: u32, position: u32) -> Result<Option<u32>, Fault>
-        requires { place + 4 < 2 ^ 32 }
+        requires { place ≤ 1048576 }
         ensures { result ≡ entry_index reader.now.table.now reader.now.key self place position }
     {
         let glyph = reader.key.glyph;

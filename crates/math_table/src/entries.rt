@@ -1,14 +1,14 @@
-ghost use Rattle.std.specs.Prelude.{◌≡◌, ◌+◌, ◌^◌, ◌<◌};
+ghost use Rattle.std.specs.Prelude.{◌≡◌, ◌≤◌};
 ghost use Rattle.math_table.specs.Constructions.{variant_entry, part_entry};
 
 use crate::words::Reader;
 use face::{Fault, Part, Variant};
 
-// Each reading asks that its own sums fit. No type says so for all, since each kind of entry has its own length.
+// Each reading asks for a place below 2^20, where no offset wraps.
 impl Reader<'_> {
     // A variant of a face: glyph and advance.
     pub(crate) fn variant_at(&self, face: u8, place: u32) -> Result<Variant, Fault>
-        requires { place + 2 < 2 ^ 32 }
+        requires { place ≤ 1048576 }
         ensures { result ≡ variant_entry self.now.table.now face self.now.key place }
     {
         let glyph = self.word(place)?;
@@ -22,7 +22,7 @@ impl Reader<'_> {
 
     // A part of a face: glyph, start connector, end connector, full advance and flags.
     pub(crate) fn part_at(&self, face: u8, place: u32) -> Result<Part, Fault>
-        requires { place + 8 < 2 ^ 32 }
+        requires { place ≤ 1048576 }
         ensures { result ≡ part_entry self.now.table.now face self.now.key place }
     {
         let glyph = self.word(place)?;

@@ -9,6 +9,7 @@ pub mod laws;
 mod located;
 mod locating;
 mod runs;
+mod shape;
 mod shapes;
 pub mod tables;
 mod words;

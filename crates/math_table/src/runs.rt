@@ -1,7 +1,5 @@
-ghost use Rattle.std.specs.Prelude.{◌≡◌};
+ghost use Rattle.std.specs.Prelude.{◌≡◌, ◌≤◌};
 ghost use Rattle.math_table.specs.Shapes.{place_of};
-
-use std::marker::Model;
 
 // Entries side by side: how many, and the byte offset of the first.
 #[derive(Clone, Copy)]
@@ -10,23 +8,10 @@ pub(crate) struct Run {
     pub(crate) first: u32,
 }
 
-// The first is so near to the table's beginning that 32 bits suffice for every offset in the entries.
-impl Model for Run {
-    ghost use Rattle.std.specs.Prelude.{◌≤◌};
-    ghost use Rattle.math_table.specs.Places.{Run as TheRun};
-
-    ghost Value = { TheRun };
-
-    ghost view = { λ run. record { count = run.count; first = run.first } };
-
-    ghost invariant = { λ run. run.first ≤ 262144 };
-
-    ghost inverse = { λ run. record { count = run.count; first = run.first } };
-}
-
 impl Run {
     // Where the entry at an index begins, if the run has it and entries are of `size` bytes.
     pub(crate) fn place(self, size: u8, index: u16) -> Option<u32>
+        requires { self.first ≤ 262144 }
         ensures { result ≡ place_of self size index }
     {
         (index < self.count).then(|| self.first + u32::from(size) * u32::from(index))

@@ -1,24 +1,19 @@
-ghost use Rattle.std.specs.Prelude.{◌≡◌, ◌≤◌};
+ghost use Rattle.std.specs.Prelude.{◌≡◌, ◌≤◌, IfOk};
 ghost use Rattle.math_table.specs.Shapes.{run as run_at, part_run, shaped};
 
 use crate::located::Located;
 use crate::runs::Run;
+use crate::shape::Shape;
 use crate::words::Reader;
 use face::Fault;
-
-// A construction whose words are all inside the table.
-#[derive(Clone, Copy)]
-pub(crate) struct Shape {
-    pub(crate) least: u16,
-    pub(crate) variants: Run,
-    pub(crate) parts: Run,
-}
 
 impl Reader<'_> {
     // Entries of so many words each, whose count stands at `count`.
     fn run(&self, words: u8, count: u32, first: u32) -> Result<Run, Fault>
-        requires { first ≤ 262144 }
-        ensures { result ≡ run_at self.now.table.now self.now.key words count first }
+        requires words { words ≤ 5 }
+        requires first { first ≤ 262144 }
+        ensures value { result ≡ run_at self.now.table.now self.now.key words count first }
+        ensures near { IfOk result (λ run. run.first ≤ 262144) }
     {
         let count = self.word(count)?;
         self.words_inside(u32::from(words) * u32::from(count), first)?;
@@ -27,7 +22,8 @@ impl Reader<'_> {
 
     // The parts of a construction, whose assembly begins `offset` bytes after it; 0 means no assembly.
     fn part_run(&self, located: Located, offset: u16) -> Result<Run, Fault>
-        ensures { result ≡ part_run self.now.table.now self.now.key located.place offset }
+        ensures value { result ≡ part_run self.now.table.now self.now.key located.place offset }
+        ensures near { IfOk result (λ run. run.first ≤ 262144) }
     {
         if offset == 0 {
             return Ok(Run { count: 0, first: 0 });

@@ -6,7 +6,7 @@ ghost use Rattle.math_table.specs.Reading.{LARGEST_WORD as the_largest_word};
 ghost use Rattle.math_table.specs.Shapes.{shape_look, shape_variant, shape_part, found_variant, found_part};
 
 use crate::found::Found;
-use crate::shapes::Shape;
+use crate::shape::Shape;
 use crate::words::Reader;
 use face::{Face, Fault, Key, LARGEST, Look, Part, Variant};
 

@@ -1,4 +1,4 @@
-ghost use Rattle.std.specs.Prelude.{◌≡◌, ◌+◌, ◌*◌, ◌^◌, ◌<◌};
+ghost use Rattle.std.specs.Prelude.{◌≡◌, ◌+◌, ◌*◌, ◌≤◌};
 ghost use Rattle.math_table.specs.Reading.{word_at, word, fault_at};
 ghost use Rattle.math_table.specs.Shapes.{words_inside};
 
@@ -46,10 +46,10 @@ impl Reader<'_> {
     }
 
     // Are so many words from `first` on inside the table? They lie side by side, so its length tells.
-    // It asks that its own sum fits, as each reading does: no type says so for all, since each has its own length.
+    // As each reading does, it asks for offsets below 2^20, where none wraps.
     #[tactic(auto, using(crate::proofs::SideBySide::told_by_length))]
     pub(crate) fn words_inside(&self, words: u32, first: u32) -> Result<(), Fault>
-        requires { first + 2 * words < 2 ^ 32 }
+        requires { first + 2 * words ≤ 1048576 }
         ensures { result ≡ words_inside self.now.table.now self.now.key words first }
     {
         let whole = self.table.len().saturating_sub(first as usize) / 2;

@@ -2,6 +2,7 @@ mod changed;
 mod cut;
 mod described;
 mod even;
+mod found;
 mod level;
 mod limits;
 mod piled;

@@ -11,24 +11,25 @@ use text::Lines;
 #[derive(Clone, Copy)]
 struct Words<T>(T);
 
-impl Display for Words<Variant> {
+// An entry after its index.
+impl Display for Words<(usize, Variant)> {
     fn fmt<W: fmt::Write>(&self, f: &mut fmt::Formatter<W>) -> fmt::Result {
-        let Words(variant) = self;
+        let Words((index, variant)) = self;
         write!(
             f,
-            "face {} glyph {} advance {}",
+            "  variant {index}: face {} glyph {} advance {}",
             variant.face, variant.glyph, variant.advance
         )
     }
 }
 
-impl Display for Words<Part> {
+impl Display for Words<(usize, Part)> {
     fn fmt<W: fmt::Write>(&self, f: &mut fmt::Formatter<W>) -> fmt::Result {
-        let Words(part) = self;
+        let Words((index, part)) = self;
         let extender = if part.extender { " extender" } else { "" };
         write!(
             f,
-            "face {} glyph {} start {} end {} full {}{extender}",
+            "  part {index}: face {} glyph {} start {} end {} full {}{extender}",
             part.face, part.glyph, part.start, part.end, part.full
         )
     }
@@ -45,16 +46,15 @@ impl Display for Words<Fault> {
     }
 }
 
-// Entries, one a line, each with its index.
-fn print_entries<W: Write, I: Iterator>(out: &mut W, kind: &str, entries: I) -> io::Result<()>
+// Entries, one a line.
+fn print_entries<W: Write, I: Iterator>(out: &mut W, entries: I) -> io::Result<()>
 where
     I::Item: Display + Drop,
     requires can { I.can_next entries }
     requires ends { IsFinite (I.remaining entries) }
 {
-    // Not `enumerate`, which asks for a bound on how many come.
-    for (index, entry) in (0usize..).zip(entries) {
-        writeln!(out, "  {kind} {index}: {entry}")?;
+    for entry in entries {
+        writeln!(out, "{entry}")?;
     }
     Ok(())
 }
@@ -64,8 +64,9 @@ fn print_construction<W: Write, F: Face>(out: &mut W, offer: &Offer<F>) -> io::R
     writeln!(out, "construction")?;
     writeln!(out, "  limit {}", look.limit)?;
     writeln!(out, "  least overlap {}", look.least)?;
-    print_entries(out, "variant", offer.entries::<Variant>().map(Words))?;
-    print_entries(out, "part", offer.entries::<Part>().map(Words))
+    // Not `enumerate`, which asks for a bound on how many come.
+    print_entries(out, (0usize..).zip(offer.entries::<Variant>()).map(Words))?;
+    print_entries(out, (0usize..).zip(offer.entries::<Part>()).map(Words))
 }
 
 // What a face says of a key.

@@ -1,5 +1,5 @@
 // The sums at any repeat count, and their span.
-ghost use Rattle.std.specs.Prelude.{◌≡◌, MatchOption};
+ghost use Rattle.std.specs.Prelude.{◌≡◌, ◌≤◌, MatchOption};
 ghost use Rattle.face.specs.Meaning.{Construction};
 ghost use Rattle.choice.specs.Spans.{span as legal_sizes};
 ghost use Rattle.choice.specs.Sums.{grown};
@@ -10,11 +10,11 @@ use crate::sums::{MOST_PIECES, Sums};
 
 impl Totals {
     // The sums at one repeat and so many further ones.
-    fn repeated(self, further: u16) -> Sums
-        ensures { result ≡ grown self.once self.more further }
+    fn repeated(self, times: u32) -> Sums
+        requires { times ≤ 4095 }
+        ensures { result ≡ grown self.once self.more times }
     {
         let more = self.more;
-        let times = u32::from(further);
         Sums {
             pieces: self.once.pieces + times * more.pieces,
             full: self.once.full + u64::from(times) * more.full,
@@ -34,7 +34,7 @@ impl Totals {
         if repeats > MOST_PIECES || self.more.pieces == 0 {
             return None;
         }
-        Some(self.repeated((repeats - 1) as u16))
+        Some(self.repeated(repeats - 1))
     }
 
     // The smallest and the largest legal size at a repeat count; none where no assembly is legal.

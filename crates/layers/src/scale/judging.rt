@@ -4,7 +4,7 @@ ghost use Rattle.layers.specs.Answers.{verdict, judged_below, Entries};
 ghost use Rattle.layers.specs.Scaling.{first_too_long, lengths, scaled};
 
 use crate::scale::Scale;
-use face::{Cause, Face, Fault, Key, Layer, Look, Offer, Part, Variant};
+use face::{Cause, Face, Fault, Key, Known, Layer, Look, Offer, Part, Variant};
 use std::iter;
 
 impl<F: Face> Scale<F> {
@@ -32,19 +32,20 @@ impl<F: Face> Scale<F> {
         }
     }
 
-    // What the face below offers, without its entries, where none of its lengths is too long when scaled.
-    // Where the longest of all fits, none is asked for.
+    // What the face below tells of a key, where none of its lengths is too long when scaled.
+    // The longest of all is asked for where there is a construction alone, and where it fits, no other is.
     pub(super) fn judged(&self, key: Key) -> Result<Option<Look>, Fault>
         ensures { result ≡ judged_below self.now.by key (F.Face.meaning self.now.face key) }
     {
-        if self.fits(self.face.longest()) {
-            return self.face.look(key).map_err(Fault::passed_up);
-        }
-        let Some(offer) = Offer::of(&self.face, key).map_err(Fault::passed_up)? else {
+        let Some(known) = Known::of(&self.face, key).map_err(Fault::passed_up)? else {
             return Ok(None);
         };
-        self.judge(key, &offer)?;
-        Ok(Some(offer.look()))
+        let look = known.look();
+        if self.fits(self.face.longest()) {
+            return Ok(Some(look));
+        }
+        self.judge(key, &known.offer())?;
+        Ok(Some(look))
     }
 
     // Is no length of the key too long when scaled?

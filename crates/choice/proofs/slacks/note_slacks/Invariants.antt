@@ -2,7 +2,7 @@ use Rattle.std.proofs.Common.{◌≡◌, ◌+◌, ◌≤◌, ◌++◌, length}
 use Rattle.choice.specs.Assemblies.{mosts}
 use Rattle.choice.specs.Spreading.{slacks}
 use Rattle.choice.specs.Tallying.{mosts_after}
-use Rattle.choice.proofs.slacks.slacks_of.Given as goal
+use Rattle.choice.proofs.slacks.note_slacks.Given as goal
 
 -- the slacks so far are noted, those of the pieces ahead follow
 abbrev pub invariant-loop-part : goal.invariant-loop-part
